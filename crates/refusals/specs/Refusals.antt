@@ -1,0 +1,52 @@
+-- The causes of refusal (01, "Causes of refusal"): the number of each, and the figures returned with it; and answers.
+-- The causes themselves are the cases of the enum `Refusal` in src/lib.rt.
+use mathlib.Core.List.{List, [], _∷_}
+use Prim.Native.Nat.{ℕ}
+use Rattle.refusals.specs.declared.Refusal.{Refusal}
+use Rattle.refusals.specs.declared.Refusal.the-variants.{LeafCount, InputLength, OutputRoom, Diagonal, Halves}
+use Rattle.refusals.specs.declared.Refusal.the-variants.{NoTree, Child, NamedBefore, Question, Record}
+use Rattle.refusals.specs.declared.Refusal.the-variants.{PairingCode, Proposal, SheetEnds, SheetLength}
+use Rattle.refusals.specs.declared.Refusal.the-variants.{Name, SameName}
+
+-- the number of a refusal
+abbrev pub number-of : Refusal → ℕ
+number-of LeafCount = 1
+number-of InputLength = 2
+number-of OutputRoom = 3
+number-of (Diagonal i) = 4
+number-of (Halves i j) = 5
+number-of NoTree = 6
+number-of (Child p) = 7
+number-of (NamedBefore p) = 8
+number-of (Question p) = 9
+number-of (Record k) = 10
+number-of (PairingCode k) = 11
+number-of (Proposal k) = 12
+number-of SheetEnds = 13
+number-of SheetLength = 14
+number-of (Name i) = 15
+number-of (SameName i) = 16
+
+-- the figures returned with it
+abbrev pub figures-of : Refusal → List ℕ
+figures-of LeafCount = []
+figures-of InputLength = []
+figures-of OutputRoom = []
+figures-of (Diagonal i) = i ∷ []
+figures-of (Halves i j) = i ∷ j ∷ []
+figures-of NoTree = []
+figures-of (Child p) = p ∷ []
+figures-of (NamedBefore p) = p ∷ []
+figures-of (Question p) = p ∷ []
+figures-of (Record k) = k ∷ []
+figures-of (PairingCode k) = k ∷ []
+figures-of (Proposal k) = k ∷ []
+figures-of SheetEnds = []
+figures-of SheetLength = []
+figures-of (Name i) = i ∷ []
+figures-of (SameName i) = i ∷ []
+
+-- what an operation answers: its result, or a refusal
+pub data Answer (A : Type 0) : Type 0 where
+  accepted : A → Answer A
+  refused : Refusal → Answer A

@@ -1,0 +1,10 @@
+pub mod Trees
+pub mod Subtrees
+pub mod Forests
+pub mod Rules
+pub mod Listings
+pub mod Splits
+pub mod Quartets
+pub mod PathSums
+pub mod Pairings
+pub mod Tables
