@@ -1,4 +1,4 @@
--- Laws of `all`, `count` and `sum` over the numbers below n.
+-- Laws of `all` and `count` over the numbers below n.
 use mathlib.Core.Path.{_≡_, refl, sym, _∙_}
 use mathlib.Core.Logic.{inl, inr, _≢_}
 use mathlib.Core.Bool.{Bool, true, false, not, _&&_, _||_, and-true, and-false, or-false}
@@ -7,7 +7,7 @@ use native.Mathlib.Omega.{arith}
 use native.Mathlib.Decide.{decLt, ℕ-discrete}
 use borrow.Author.Tests.{eqb-true, not-true, ne-eqb}
 use lib.Dec.{eqb}
-use Rattle.base.specs.Numbers.{gain, all, count, sum}
+use Rattle.base.specs.Numbers.{gain, all, count}
 use Rattle.base.proofs.Bools.{bool?, and-both, and-is, eqb-same}
 
 pub all-true : (n : ℕ) (f : ℕ → Bool) → all n f ≡ true → (k : ℕ) → k < n → f k ≡ true
@@ -120,8 +120,3 @@ pub count-two :
 count-two n u a b la lb ha hb d =
     let other : (u b && not (eqb b a)) ≡ true = rw (hb, ne-eqb b a (λ e. d (sym e))) in
     omega (arith, count-drop n u a la ha, count-drop n (λ k. u k && not (eqb k a)) b lb other)
-
-pub sum-ext : (n : ℕ) (f g : ℕ → ℕ) → ((k : ℕ) → k < n → f k ≡ g k) → sum n f ≡ sum n g
-unfolding sum
-sum-ext zero f g h = refl
-sum-ext (suc n) f g h = rw (h n (omega arith), sum-ext n f g (λ k l. h k (omega arith)))

@@ -2,13 +2,14 @@
 use mathlib.Core.Path.{_≡_, refl}
 use mathlib.Core.Logic.{inl, inr}
 use mathlib.Core.Bool.{Bool, true, false, _&&_, _||_, and-true, and-false}
+use mathlib.Core.Option.{none}
 use Prim.Native.Nat.{ℕ, zero, suc, _+_, _-_, _*_, _≤_, _<_}
 use native.Mathlib.Nat.{add-zero, mul-zero, add-suc}
 use native.Mathlib.Numerals.{add-one}
 use native.Mathlib.Omega.{arith}
 use Rattle.base.specs.Numbers.{count}
 use Rattle.base.proofs.Bools.{bool?}
-use Rattle.base.proofs.Counts.{count-suc, count-or, count-imp, count-ext, count-false}
+use Rattle.base.proofs.Counts.{count-suc, count-imp, count-ext, count-or, count-false}
 use Rattle.pairs.specs.Limits.{most-leaves}
 use Rattle.pairs.specs.Pairs.{P, pairs}
 

@@ -2,9 +2,11 @@ pub mod Trees
 pub mod Subtrees
 pub mod Forests
 pub mod Rules
+pub mod Blocks
 pub mod Listings
 pub mod Splits
 pub mod Quartets
+pub mod Asides
 pub mod PathSums
 pub mod Pairings
 pub mod Tables

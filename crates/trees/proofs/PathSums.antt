@@ -3,8 +3,7 @@
 -- subtree of X holds p and q and not i, or some subtree of Y holds p and q and not j; the three exclude each other.
 use mathlib.Core.Path.{_≡_, refl, sym, _∙_}
 use mathlib.Core.Logic.{inl, inr, _≢_}
-use mathlib.Core.Bool.{Bool, true, false, not, cond, _&&_, _||_, and-false, or-comm}
-use mathlib.Core.Option.{none}
+use mathlib.Core.Bool.{Bool, true, false, not, cond, _&&_, _||_, or-comm, and-comm}
 use Prim.Native.Nat.{ℕ, _+_, _-_, _<_}
 use native.Mathlib.Nat.{add-comm}
 use native.Mathlib.Omega.{arith}
@@ -12,31 +11,19 @@ use native.Mathlib.Decide.{ℕ-discrete}
 use borrow.Author.Tests.{not-true, ne-eqb}
 use lib.Dec.{ltb}
 use Rattle.base.specs.Numbers.{gain, count}
-use Rattle.base.specs.Lists.{any}
-use Rattle.base.proofs.Bools.{bool?, never, is-false, bool-iff, or-left, or-right, or-none, or-cases, or-neither}
-use Rattle.base.proofs.Bools.{or-absorb, and-both, and-is}
+use Rattle.base.proofs.Bools.{bool?, is-false, or-left, or-right, or-none, or-cases, or-neither, or-absorb, and-both}
 use Rattle.base.proofs.Counts.{count-not}
 use Rattle.pairs.specs.Pairs.{P, pairs}
-use Rattle.pairs.proofs.Pairs.{pairs-ext, pairs-or, pairs-false, pairs-both}
+use Rattle.pairs.proofs.Pairs.{pairs-ext, pairs-or, pairs-both}
 use Rattle.trees.specs.Trees.{Tree, leaf, node, leaves, size, IsTree, least, join}
-use Rattle.trees.specs.Edges.{edges}
 use Rattle.trees.specs.Quartets.{separates, paired, quartets}
 use Rattle.trees.proofs.Trees.{leaves-leaf, leaves-node, leaf-has, leaf-eq, size-node, Apart, apart-sym}
 use Rattle.trees.proofs.Trees.{Distinct, Within, within-left, within-right, size-count, OnLeaves, tree-on}
 use Rattle.trees.proofs.Trees.{root-within, root-distinct, root-all}
-use Rattle.trees.proofs.Subtrees.{in-whole, sub-of, any-leaf, any-node, any-edge, the-edge}
 use Rattle.trees.proofs.Quartets.{paired-leaf, paired-node, paired-root, separates-in, separates-out-j}
 use Rattle.trees.proofs.Quartets.{separates-ext, separates-flip, paired-ij, quartets-all}
-
--- some subtree of X holds p and q and not i
-unfoldable pub aside : Tree → ℕ → ℕ → ℕ → Bool
-aside X i p q = any (λ e. (e p && e q) && not (e i)) (edges X)
-
--- the number of pairs that subtrees of X set aside from i, by the sizes of the subtrees that branch off on the way to i
-unfoldable pub inner-sum : Tree → ℕ → ℕ
-inner-sum (leaf x) i = 0
-inner-sum (node X Y) i =
-    gain (leaves X i) (inner-sum X i + P (size Y)) + gain (leaves Y i) (inner-sum Y i + P (size X))
+use Rattle.trees.proofs.Asides.{aside, inner-sum, aside-leaf, aside-node, aside-in, aside-not, aside-out}
+use Rattle.trees.proofs.Asides.{inner-sum-count}
 
 -- the sum along the path from i to j in a tree on some of n leaves
 unfoldable pub path-sum : ℕ → Tree → ℕ → ℕ → ℕ
@@ -46,109 +33,6 @@ path-sum n (node X Y) i j =
     let j-sum = gain (leaves X j) (inner-sum X j) + gain (leaves Y j) (inner-sum Y j) in
     cond (leaves X i && leaves X j) (path-sum n X i j)
     (cond (leaves Y i && leaves Y j) (path-sum n Y i j) (P (n - (size X + size Y)) + (i-sum + j-sum)))
-
-aside-leaf :
-    (x i p q : ℕ) → aside (leaf x) i p q ≡ ((leaves (leaf x) p && leaves (leaf x) q) && not (leaves (leaf x) i))
-unfolding aside
-aside-leaf x i p q = any-leaf (λ e. (e p && e q) && not (e i)) x
-
-aside-node :
-    (X Y : Tree) (i p q : ℕ)
-    → aside (node X Y) i p q
-    ≡ (((leaves (node X Y) p && leaves (node X Y) q) && not (leaves (node X Y) i)) || (aside X i p q || aside Y i p q))
-unfolding aside
-aside-node X Y i p q = any-node (λ e. (e p && e q) && not (e i)) X Y
-
--- only leaves of X are set aside in X
-aside-in : (X : Tree) (i p q : ℕ) → aside X i p q ≡ true → (leaves X p ≡ true) × (leaves X q ≡ true)
-unfolding aside
-aside-in X i p q h =
-    let r = the-edge (λ e. (e p && e q) && not (e i)) X h in
-    let both = and-both (leaves (r .0) p && leaves (r .0) q) (not (leaves (r .0) i)) (r .2) in
-    let t = and-both (leaves (r .0) p) (leaves (r .0) q) (both .0) in
-    (sub-of X (r .0) (r .1) p (t .0), sub-of X (r .0) (r .1) q (t .1))
-
-aside-not : (X : Tree) (i p q : ℕ) → leaves X p ≡ false → aside X i p q ≡ false
-aside-not X i p q h = is-false (aside X i p q) (λ t. never ((aside-in X i p q t) .0) h)
-
--- a subtree without i sets all of its pairs aside
-aside-out : (X : Tree) (i p q : ℕ) → leaves X i ≡ false → aside X i p q ≡ (leaves X p && leaves X q)
-aside-out X i p q h = bool-iff _ _ (λ t. (let r = aside-in X i p q t in and-is _ _ (r .0) (r .1))) (whole X h)
-  where
-    whole : (X : Tree) → leaves X i ≡ false → (leaves X p && leaves X q) ≡ true → aside X i p q ≡ true
-    whole X h t =
-        unfold aside in any-edge (λ e. (e p && e q) && not (e i)) X X (in-whole X) (rw (t, h))
-
--- seen from the child that holds i
-aside-left :
-    (X Y : Tree) (i p q : ℕ) → leaves X i ≡ true → leaves Y i ≡ false
-    → aside (node X Y) i p q ≡ (aside X i p q || (leaves Y p && leaves Y q))
-aside-left X Y i p q a b =
-    rw (aside-node, aside-out Y i p q b, leaves-node i X Y, a, and-false (leaves (node X Y) p && leaves (node X Y) q))
-
-aside-right :
-    (X Y : Tree) (i p q : ℕ) → leaves X i ≡ false → leaves Y i ≡ true
-    → aside (node X Y) i p q ≡ (aside Y i p q || (leaves X p && leaves X q))
-aside-right X Y i p q a b =
-    let none = and-false (leaves (node X Y) p && leaves (node X Y) q) in
-    rw (aside-node, aside-out X i p q a, leaves-node i X Y, a, b, none)
-    (or-comm (leaves X p && leaves X q) (aside Y i p q))
-
-pub inner-sum-leaf : (x i : ℕ) → inner-sum (leaf x) i ≡ 0
-unfolding inner-sum
-inner-sum-leaf x i = refl
-
-pub inner-sum-left :
-    (X Y : Tree) (i : ℕ) → leaves X i ≡ true → leaves Y i ≡ false → inner-sum (node X Y) i ≡ inner-sum X i + P (size Y)
-unfolding inner-sum
-inner-sum-left X Y i a b = rw (a, b) (omega arith)
-
-pub inner-sum-right :
-    (X Y : Tree) (i : ℕ) → leaves X i ≡ false → leaves Y i ≡ true → inner-sum (node X Y) i ≡ inner-sum Y i + P (size X)
-unfolding inner-sum
-inner-sum-right X Y i a b = rw (a, b) (omega arith)
-
-pub inner-sum-out : (Z : Tree) (k : ℕ) → leaves Z k ≡ false → inner-sum Z k ≡ 0
-unfolding inner-sum leaves
-inner-sum-out (leaf x) k h = refl
-inner-sum-out (node X Y) k h = let o = or-neither (leaves X k) (leaves Y k) h in rw (o .0, o .1)
-
-pub inner-sum-join :
-    (A B : Tree) (i : ℕ) → leaves A i ≡ true → leaves B i ≡ false → inner-sum (join A B) i ≡ inner-sum A i + P (size B)
-unfolding join
-inner-sum-join A B i a b = elim (bool? (ltb (least A) (least B))) [
-  | inl t ↦ rw t (inner-sum-left A B i a b)
-  | inr f ↦ rw f (inner-sum-right B A i b a)
-]
-
--- one branch more: what the subtree on the way to i sets aside, and all pairs of the branch
-branch-count :
-    (n : ℕ) (X Y : Tree) (i : ℕ) → Apart X Y → Distinct Y → Within n Y
-    → pairs n (λ p q. aside X i p q || (leaves Y p && leaves Y q)) ≡ pairs n (aside X i) + P (size Y)
-branch-count n X Y i r d h =
-    pairs-or n (aside X i) (λ p q. leaves Y p && leaves Y q) (λ p q u. rw (r p ((aside-in X i p q u) .0)))
-    ∙ rw (pairs-both n (leaves Y), size-count n Y d h)
-
-inner-sum-count :
-    (n : ℕ) (X : Tree) (i : ℕ) → Distinct X → Within n X → leaves X i ≡ true → pairs n (aside X i) ≡ inner-sum X i
-inner-sum-count n (leaf x) i r h a =
-    rw inner-sum-leaf (pairs-ext n (aside (leaf x) i) (λ p q. false) nothing ∙ pairs-false n)
-  where
-    nothing : (p q : ℕ) → p < q → q < n → aside (leaf x) i p q ≡ false
-    nothing p q l m = rw (aside-leaf, a) (and-false (leaves (leaf x) p && leaves (leaf x) q))
-inner-sum-count n (node X Y) i r h a = elim (or-cases (leaves X i) (leaves Y i) (rw leaves-node at a)) [
-  | inl t ↦
-      pairs-ext n (aside (node X Y) i) (λ p q. aside X i p q || (leaves Y p && leaves Y q))
-      (λ p q l m. aside-left X Y i p q t (r .2 i t))
-      ∙ branch-count n X Y i (r .2) (r .1) (within-right n X Y h)
-      ∙ rw (inner-sum-left X Y i t (r .2 i t), inner-sum-count n X i (r .0) (within-left n X Y h) t)
-  | inr t ↦
-      let o = apart-sym X Y (r .2) in
-      pairs-ext n (aside (node X Y) i) (λ p q. aside Y i p q || (leaves X p && leaves X q))
-      (λ p q l m. aside-right X Y i p q (o i t) t)
-      ∙ branch-count n Y X i o (r .0) (within-left n X Y h)
-      ∙ rw (inner-sum-right X Y i (o i t) t, inner-sum-count n Y i (r .1) (within-right n X Y h) t)
-]
 
 -- Pairings in a node, by its children.
 paired-out-j : (X : Tree) (i j p q : ℕ) → leaves X j ≡ false → paired X i j p q ≡ aside X i p q
@@ -272,11 +156,22 @@ pub path-sum-cross :
 unfolding path-sum
 path-sum-cross n X Y i j r a b = rw (a, r i a, apart-sym X Y r j b, b) (omega arith)
 
-path-sum-back :
-    (n : ℕ) (X Y : Tree) (i j : ℕ) → Apart X Y → leaves Y i ≡ true → leaves X j ≡ true
-    → path-sum n (node X Y) i j ≡ P (n - (size X + size Y)) + (inner-sum X j + inner-sum Y i)
+-- the path the other way
+pub path-sum-turn : (n : ℕ) (Z : Tree) (i j : ℕ) → path-sum n Z i j ≡ path-sum n Z j i
 unfolding path-sum
-path-sum-back n X Y i j r a b = rw (a, r j b, apart-sym X Y r i a, b) (omega arith)
+path-sum-turn n (leaf x) i j = refl
+path-sum-turn n (node X Y) i j =
+    rw (
+      and-comm (leaves X i) (leaves X j),
+      and-comm (leaves Y i) (leaves Y j),
+      path-sum-turn n X i j,
+      path-sum-turn n Y i j,
+    )
+    (cond-same (leaves X j && leaves X i) (path-sum n X j i)
+    (cond-same (leaves Y j && leaves Y i) (path-sum n Y j i) (omega arith)))
+  where
+    cond-same : (b : Bool) (x : ℕ) {y z : ℕ} → y ≡ z → cond b x y ≡ cond b x z
+    cond-same b x e = rw e
 
 -- of two subtrees joined
 pub path-sum-same :
@@ -296,7 +191,7 @@ path-sum-two n A B i j r a b = elim (bool? (ltb (least A) (least B))) [
   | inl t ↦ rw t (path-sum-cross n A B i j r a b)
   | inr f ↦
       rw (f, add-comm (size A) (size B), add-comm (inner-sum A i) (inner-sum B j))
-      (path-sum-back n B A i j (apart-sym A B r) a b)
+      (path-sum-turn n (node B A) i j ∙ path-sum-cross n B A j i (apart-sym A B r) b a)
 ]
 
 -- pairs of leaves below n, counted over the edges of a tree on some of them, are the sum along the path
@@ -320,7 +215,7 @@ count-path-sum n (node X Y) i j r h a b d = elim (or-cases (leaves X i) (leaves 
         pairs-ext n (paired (node X Y) i j) (crossing X Y j i)
         (λ p q l m. paired-ij (node X Y) i j p q ∙ paired-cross X Y (r .2) j i p q jx iy)
         ∙ cross-count n X Y j i r h jx iy
-        ∙ sym (path-sum-back n X Y i j (r .2) iy jx)
+        ∙ sym (path-sum-turn n (node X Y) i j ∙ path-sum-cross n X Y j i (r .2) jx iy)
     | inr jy ↦
         pairs-ext n (paired (node X Y) i j) (paired Y i j) (λ p q l m. paired-right X Y (r .2) i j p q iy jy)
         ∙ count-path-sum n Y i j (r .1) (within-right n X Y h) iy jy d

@@ -2,8 +2,8 @@
 use mathlib.Core.Path.{_≡_, refl, sym, _∙_}
 use mathlib.Core.Logic.{inl, inr, _≢_}
 use mathlib.Core.Bool.{Bool, true, false, not, _&&_, _||_}
-use mathlib.Core.List.{List, [], _∷_}
-use mathlib.Core.Option.{none}
+use mathlib.Core.List.{List, [], _∷_, map}
+use mathlib.Core.Option.{none, some}
 use Prim.Native.Nat.{ℕ, suc, _+_, _-_, _*_, _/_, _≤_, _<_}
 use native.Mathlib.Nat.{add-zero}
 use native.Mathlib.Omega.{arith}
@@ -11,6 +11,7 @@ use native.Mathlib.Decide.{decLt, ℕ-discrete}
 use borrow.Author.Tests.{ltb-true, leb-true, eqb-true, not-true, lt-ltb, le-leb, ne-eqb}
 use lib.Dec.{ltb, leb, eqb}
 use lib.ListN.{length}
+use Rattle.refusals.specs.declared.Refusal.the-variants.{Child, NamedBefore}
 use Rattle.base.specs.Lists.{any}
 use Rattle.base.proofs.Bools.{bool?, never, is-false, or-left, or-right, or-none, or-cases, or-neither, and-both}
 use Rattle.base.proofs.Bools.{and-is, eqb-same}
@@ -21,6 +22,13 @@ use Rattle.trees.specs.Listings.{child, broken-from, broken, KeepsRules,
 use Rattle.trees.proofs.Trees.{OnLeaves, on-tree}
 use Rattle.trees.proofs.Forests.{unused, use-row, lawful, odd-unlawful, lawful-row, row-lawful, is-unused}
 use Rattle.trees.proofs.Forests.{unused-is, lawful-tree}
+
+-- P9 to P11, and leaf 0 as a child: the first place that breaks the rules
+rules-example :
+    map (broken 4) ((2 ∷ 3 ∷ 4 ∷ 1 ∷ []) ∷ (2 ∷ 2 ∷ 1 ∷ 4 ∷ []) ∷ (2 ∷ 4 ∷ 1 ∷ 3 ∷ []) ∷ (0 ∷ 3 ∷ 4 ∷ 1 ∷ []) ∷ [])
+    ≡ none ∷ some (NamedBefore 1) ∷ some (Child 1) ∷ some (Child 0) ∷ []
+unfolding broken broken-from child any
+rules-example = refl
 
 -- a child of row k is a number from 1 to n + k − 1
 child-in : (n k c : ℕ) → 0 < n → child n k c ≡ true → (0 < c) × (c < n + k)

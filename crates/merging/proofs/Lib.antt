@@ -1,0 +1,15 @@
+pub mod States
+pub mod Hanging
+pub mod Runs
+pub mod Soundness
+pub mod Completeness
+pub mod ThreeLeft
+pub mod Exchange
+pub mod MergeLists
+pub mod Rebuilds
+pub mod Ends
+pub mod Demand3
+pub mod EdgesLeft
+pub mod SameTree
+pub mod Speed
+pub mod Cases
