@@ -9,8 +9,8 @@ use native.Mathlib.Nat.{add-zero, mul-zero, mul-suc, add-comm, mul-le-mul-right,
 use native.Mathlib.Nat.{mul-add-mod-self-right, div-eq-of-lt, mod-eq-of-lt}
 use native.Mathlib.Omega.{arith}
 use native.Mathlib.Decide.{decLt}
-use lib.ListN.{length, getD, length-append, List·getD-append}
-use lib.Seq.{getD-at}
+use lib.ListN.{length, getD, set, length-append, List·getD-append}
+use lib.Seq.{getD-at, sets}
 use Rattle.base.specs.Lists.{tab, in-rows, any, every, find, all-but-last}
 use Rattle.base.proofs.Bools.{bool?, or-left, or-right, or-cases, and-both, and-is}
 
@@ -148,3 +148,11 @@ split-last zero (a ∷ b ∷ l) h = absurd (omega arith)
 split-last (suc m) (a ∷ b ∷ l) h =
     let r = split-last m (b ∷ l) (omega arith) in
     (a ∷ r .0, r .1, omega (arith, r .2), ap (λ z. a ∷ z) (r .3))
+
+-- lists written into a buffer one after the other
+pub sets-append :
+    {A : Type 0} (xs ys l : List A) (i : ℕ) → sets l i (xs ++ ys) ≡ sets (sets l i xs) (i + length xs) ys
+sets-append [] ys l i = rw (add-zero i)
+sets-append (x ∷ xs) ys l i =
+    let on : i + suc (length xs) ≡ suc i + length xs = omega arith in
+    rw on (sets-append xs ys (set l i x) (suc i))

@@ -1,12 +1,16 @@
 -- The causes of refusal (01, "Causes of refusal"): the number of each, and the figures returned with it; and answers.
 -- The causes themselves are the cases of the enum `Refusal` in src/lib.rt.
-use mathlib.Core.List.{List, [], _∷_}
+use mathlib.Core.List.{List, [], _∷_, _++_}
+use mathlib.Core.Option.{Option, none, some}
 use Prim.Native.Nat.{ℕ}
+use lib.ListN.{length, drop}
 use Rattle.refusals.specs.declared.Refusal.{Refusal}
 use Rattle.refusals.specs.declared.Refusal.the-variants.{LeafCount, InputLength, OutputRoom, Diagonal, Halves}
 use Rattle.refusals.specs.declared.Refusal.the-variants.{NoTree, Child, NamedBefore, Question, Record}
 use Rattle.refusals.specs.declared.Refusal.the-variants.{PairingCode, Proposal, SheetEnds, SheetLength}
 use Rattle.refusals.specs.declared.Refusal.the-variants.{Name, SameName}
+use Rattle.refusals.specs.declared.Outcome.{Outcome}
+use Rattle.refusals.specs.declared.Outcome.the-variants.{Done, Refused}
 
 -- the number of a refusal
 abbrev pub number-of : Refusal → ℕ
@@ -50,3 +54,29 @@ figures-of (SameName i) = i ∷ []
 pub data Answer (A : Type 0) : Type 0 where
   accepted : A → Answer A
   refused : Refusal → Answer A
+
+-- the first refusal that arises, of those judged one after the other
+unfoldable pub judged : List (Option Refusal) → Option Refusal
+judged [] = none
+judged (none ∷ l) = judged l
+judged (some r ∷ l) = some r
+
+-- the answer: the refusal that arises, or the result
+unfoldable pub answered : {A : Type 0} → Option Refusal → A → Answer A
+answered none x = accepted x
+answered (some r) x = refused r
+
+-- what code returns where no refusal arises, or this one
+unfoldable pub outcome-of : Option Refusal → Outcome
+outcome-of none = Done
+outcome-of (some r) = Refused r
+
+-- the answer as the enum that code returns
+unfoldable pub outcome : {A : Type 0} → Answer A → Outcome
+outcome (accepted x) = Done
+outcome (refused r) = Refused r
+
+-- a lent buffer afterwards: the result, and cells beyond it as they were; a refusal leaves all as it was
+unfoldable pub written : {A : Type 0} → Answer (List A) → List A → List A
+written (accepted l) out = l ++ drop (length l) out
+written (refused r) out = out

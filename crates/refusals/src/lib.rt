@@ -37,6 +37,12 @@ pub enum Refusal {
     SameName(usize),
 }
 
+// What an operation answers when its result, if it has one, stands in a lent buffer.
+pub enum Outcome {
+    Done,
+    Refused(Refusal),
+}
+
 // The number of a refusal.
 pub fn number(r: Refusal) -> u32
     ensures { λ k. ⌜ k ≡ number-of r ⌝ }
