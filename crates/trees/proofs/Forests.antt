@@ -90,7 +90,7 @@ pub record Forest (n r : ℕ) (f : ℕ → Tree) (live : ℕ → Bool) : Type 0 
   pub only : (k x : ℕ) → live k ≡ true → leaves (f k) x ≡ true → (0 < x) × (x < n)
   pub number : count r live + r + 1 ≡ n + n
 
-forest-start : (n : ℕ) → 0 < n → Forest n n leaf (unused n)
+pub forest-start : (n : ℕ) → 0 < n → Forest n n leaf (unused n)
 unfolding leaves
 forest-start n z = record {
   below = λ k h. (is-unused n k h) .1;
@@ -201,7 +201,7 @@ module _ {n r : ℕ} {f : ℕ → Tree} {live : ℕ → Bool} (w : Forest n r f 
     number = number′;
   }
 
-lawful-forest :
+pub lawful-forest :
     {n r : ℕ} {f : ℕ → Tree} {live : ℕ → Bool} → Forest n r f live → (m : ℕ) (l : List ℕ) → length l ≡ 2 * m
     → lawful live r l ≡ true → Forest n (r + m) (with-rows f r l) (uses live r l)
 unfolding with-rows uses new

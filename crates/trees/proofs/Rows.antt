@@ -1,20 +1,26 @@
 -- Row by row: the node of row k of a listing that keeps the rules joins what stands under its two children, numbers
 -- that come before it. A row changes nothing under the numbers before it, so what was read under a number stays.
+-- Under each number stand distinct leaves below n.
 use mathlib.Core.Path.{_≡_, refl, sym, _∙_}
-use mathlib.Core.Bool.{true, cond}
+use mathlib.Core.Bool.{Bool, true, cond}
 use mathlib.Core.List.{List, [], _∷_}
 use mathlib.Core.Option.{none}
 use Prim.Native.Nat.{ℕ, zero, suc, _+_, _-_, _*_, _/_, _<_}
 use native.Mathlib.Nat.{zero-add, add-zero}
+use native.Mathlib.Numerals.{add-one}
 use native.Mathlib.Omega.{arith}
+use native.Mathlib.Decide.{decLt}
 use borrow.Author.Tests.{ne-eqb}
 use lib.Dec.{eqb}
 use lib.ListN.{length, getD}
-use Rattle.base.proofs.Bools.{eqb-same}
+use Rattle.base.proofs.Bools.{or-left, eqb-same}
 use Rattle.pairs.specs.Limits.{LeafCount}
 use Rattle.trees.specs.Trees.{Tree, leaf, node}
 use Rattle.trees.specs.Listings.{child, broken-from, broken, KeepsRules, with-rows, under}
-use Rattle.trees.proofs.Rules.{child-in, place-keeps, place-kept}
+use Rattle.trees.proofs.Trees.{leaf-eq, Distinct, Within}
+use Rattle.trees.proofs.Forests.{use-row, uses, lawful, LawfulRow, lawful-row, row-lawful, Forest}
+use Rattle.trees.proofs.Forests.{forest-start, lawful-forest}
+use Rattle.trees.proofs.Rules.{child-in, place-keeps, place-kept, to-lawful}
 
 -- the subtrees after one row, a b, of node r
 with-row : (ℕ → Tree) → ℕ → ℕ → ℕ → ℕ → Tree
@@ -90,3 +96,44 @@ module _ (n : ℕ) (l : List ℕ) (c : LeafCount n) (w : KeepsRules n l) where
       let first = child-before (2 * k) (omega (arith, w .numbers)) in
       let second = child-before (2 * k + 1) (omega (arith, w .numbers)) in
       rows-node leaf n l k (omega (arith, w .numbers)) (omega arith) (omega arith)
+
+-- each row makes a tree of distinct leaves below n
+after-row :
+    {n r : ℕ} {f : ℕ → Tree} {live : ℕ → Bool} {a b : ℕ} {l : List ℕ} → Forest n r f live → LawfulRow live r a b l
+    → Forest n (suc r) (with-row f r a b) (use-row live r a b)
+unfolding with-row
+after-row {r = r} {live = live} {a} {b} w p =
+    unfold with-rows uses in
+    rw (add-one r)
+    at (lawful-forest w 1 (a ∷ b ∷ []) refl
+    (lawful-row live r a b [] (p .first) (p .second) (p .differ) (unfold lawful in refl)))
+
+rows-fair :
+    {n r : ℕ} {f : ℕ → Tree} {live : ℕ → Bool} → Forest n r f live → (l : List ℕ) (m t : ℕ) → length l ≡ 2 * m → t < m
+    → lawful live r l ≡ true → Distinct (with-rows f r l (r + t)) × Within n (with-rows f r l (r + t))
+unfolding with-rows with-row
+rows-fair w [] m t e h g = absurd (omega arith)
+rows-fair w (a ∷ []) m t e h g = absurd (omega arith)
+rows-fair {r = r} {f} {live} w (a ∷ b ∷ l) m zero e h g =
+    let after = after-row w (row-lawful live r a b l g) in
+    let made : use-row live r a b r ≡ true = unfold use-row in or-left _ _ (eqb-same r) in
+    rw (add-zero r, rows-old (with-row f r a b) (suc r) l r (omega arith))
+    (after .distinct r made, λ x q. after .only r x made q .1)
+rows-fair {r = r} {live = live} w (a ∷ b ∷ l) m (suc t) e h g =
+    let p = row-lawful live r a b l g in
+    let next : r + suc t ≡ suc r + t = omega arith in
+    rw next (rows-fair (after-row w p) l (m - 1) t (omega arith) (omega arith) (p .rest))
+
+-- under each number stand distinct leaves below n
+pub fair :
+    (n : ℕ) (l : List ℕ) (c : ℕ) → LeafCount n → KeepsRules n l → c < 2 * n - 2
+    → Distinct (under n l c) × Within n (under n l c)
+unfolding under
+fair n l c count keeps high = elim (decLt c n) [
+  | yes low ↦ rw (under-leaf n l c low) (tt, λ k h. omega (arith, leaf-eq k c h))
+  | no low ↦
+      let here : n + (c - n) ≡ c = omega arith in
+      let rows = to-lawful n (n - 2) (omega arith) l (keeps .numbers) (keeps .rules) in
+      rw here
+      at (rows-fair (forest-start n (omega arith)) l (n - 2) (c - n) (keeps .numbers) (omega arith) rows)
+]

@@ -1,0 +1,54 @@
+-- `tables::judge` meets its contract: each test is the definition's next one, and a test that passes is passed over.
+use native.Mathlib.Omega.{arith}
+use borrow.Author.Needs.{needs}
+use borrow.Author.Tests.{lt-leb, le-leb, eq-eqb, ne-eqb}
+use Rattle.refusals.specs.Refusals.{judged, outcome-of}
+use Rattle.listings.specs.Sizes.{bad-count, bad-length, bad-room}
+use Rattle.tables.specs.Checks.{judged-table}
+use Rattle.tables.proofs.Verdicts.{last-told}
+use Rattle.tables.proofs.Places.{square-small}
+use Rattle.tables.proofs.judge.Statement.{statement}
+use Rattle.tables.proofs.judge.Tie as tie
+
+returns : tie.Need-returns
+unfolding judged-table judged outcome-of bad-count
+returns c = simp (lt-leb _ _ (c .if1 .taken))
+
+returns-2 : tie.Need-returns-2
+unfolding judged-table judged outcome-of bad-count
+returns-2 c = simp (le-leb _ _ (c .before .if1 .left), lt-leb _ _ (c .if2 .taken))
+
+mul-if3 : tie.Need-mul-if3
+mul-if3 c = omega (arith, square-small (c .before .before .before .args .n) (omega arith))
+
+returns-3 : tie.Need-returns-3
+unfolding judged-table judged outcome-of bad-count bad-length
+returns-3 c =
+    simp (le-leb _ _ (c .before .before .if1 .left), le-leb _ _ (c .before .if2 .left), ne-eqb _ _ (c .if3 .taken))
+
+returns-4 : tie.Need-returns-4
+unfolding judged-table judged outcome-of bad-count bad-length bad-room
+returns-4 c =
+    simp (
+      le-leb _ _ (c .before .before .before .if1 .left),
+      le-leb _ _ (c .before .before .if2 .left),
+      eq-eqb _ _ (c .before .if3 .left),
+      lt-leb _ _ (c .if4 .taken),
+    )
+
+wrong-requires : tie.Need-wrong-requires
+wrong-requires c κs = search needs
+
+returns-5 : tie.Need-returns-5
+unfolding judged-table judged bad-count bad-length bad-room
+returns-5 c =
+    simp (
+      le-leb _ _ (c .before .before .before .before .if1 .left),
+      le-leb _ _ (c .before .before .before .if2 .left),
+      eq-eqb _ _ (c .before .before .if3 .left),
+      le-leb _ _ (c .before .if4 .left),
+    ) (last-told _ _ (c .wrong .ensures))
+
+pub judge-spec : {M : Type 1} → statement M
+judge-spec =
+    tie.close (tie.spec returns returns-2 mul-if3 returns-3 returns-4 wrong-requires returns-5)

@@ -1,0 +1,3 @@
+pub mod Operations
+pub mod Checks
+pub mod Fills
