@@ -1,0 +1,24 @@
+-- `bench_entries::bench_standardise` meets its contract: answer and buffer are those of the operation that it calls.
+use mathlib.Core.Path.{ap, _∙_}
+use borrow.Author.Needs.{needs}
+use Rattle.bench_entries.specs.Codes.{code-of}
+use Rattle.bench_entries.proofs.bench_standardise.Statement.{statement}
+use Rattle.bench_entries.proofs.bench_standardise.Tie as tie
+
+standardise-requires : tie.Need-standardise-requires
+standardise-requires c κs = search needs
+
+code-requires : tie.Need-code-requires
+code-requires c κs = search needs
+
+same-length : tie.Need-same-length
+same-length c = search needs
+
+returns : tie.Need-returns
+returns c =
+    let done = c .before .before .before .standardise .ensures in
+    (c .code .ensures ∙ ap code-of (done .0), done .1)
+
+pub bench-standardise-spec : {M : Type 1} → statement M
+bench-standardise-spec =
+    tie.close (tie.spec standardise-requires code-requires same-length returns)
