@@ -1,5 +1,5 @@
-/* Measures the part against plain C of the same algorithm, and against counting quartets directly.
-   Each figure is a ratio of medians of interleaved rounds in this one run; no bare time is printed. */
+/* Measures the part against plain C of the same algorithm, against counting quartets directly and against textbook
+   neighbour joining. Each figure is a ratio of medians of interleaved rounds in this one run; no bare time is printed. */
 #define _POSIX_C_SOURCE 200809L
 #include "plain.h"
 #include <stdio.h>
@@ -14,8 +14,11 @@ uint32_t bench_standardise(size_t n, const uint16_t *listing, size_t listing_len
 uint32_t bench_table(size_t n, const uint16_t *listing, size_t listing_len, uint32_t *out, size_t out_len);
 uint32_t bench_gap(size_t n, const uint32_t *cells, size_t cells_len, const uint16_t *listing, size_t listing_len,
                    int64_t *out, size_t out_len);
+uint32_t bench_rebuild(size_t n, const uint32_t *cells, size_t cells_len, uint16_t *out, size_t out_len);
+uint32_t bench_guided(size_t n, const uint32_t *cells, size_t cells_len, const uint16_t *merges, size_t merges_len,
+                      uint16_t *out, size_t out_len);
 
-static uint16_t listing[2 * MOST], standard[2 * MOST];
+static uint16_t listing[2 * MOST], standard[2 * MOST], merges[2 * MOST], joined[2 * MOST];
 static uint32_t table[MOST * MOST], cells[MOST * MOST];
 static int64_t gaps[MOST * MOST];
 static size_t n;
@@ -52,6 +55,44 @@ static void random_listing(uint32_t seed)
     }
 }
 
+/* Each row joins the node before it and the next leaf. */
+static void comb(void)
+{
+    for (size_t k = 0; k < n - 2; k++) {
+        listing[2 * k] = (uint16_t)(k == 0 ? 1 : n + k - 1);
+        listing[2 * k + 1] = (uint16_t)(k + 2);
+    }
+}
+
+/* Each row joins the two oldest items that are not yet used. */
+static void balanced(void)
+{
+    uint16_t items[2 * MOST];
+    size_t first = 0, last = n - 1;
+    for (size_t i = 0; i < last; i++)
+        items[i] = (uint16_t)(i + 1);
+    for (size_t k = 0; k < n - 2; k++) {
+        listing[2 * k] = items[first++];
+        listing[2 * k + 1] = items[first++];
+        items[last++] = (uint16_t)(n + k);
+    }
+}
+
+/* The merges of the rows, each by a leaf of either child, and then leaf 0's. */
+static void merges_of_rows(void)
+{
+    uint16_t leaf[2 * MOST];
+    for (size_t i = 0; i < n; i++)
+        leaf[i] = (uint16_t)i;
+    for (size_t k = 0; k < n - 2; k++) {
+        merges[2 * k] = leaf[listing[2 * k]];
+        merges[2 * k + 1] = leaf[listing[2 * k + 1]];
+        leaf[n + k] = merges[2 * k];
+    }
+    merges[2 * (n - 2)] = 0;
+    merges[2 * (n - 2) + 1] = 1;
+}
+
 static void ours_standardise(void) { sink += bench_standardise(n, listing, 2 * (n - 2), standard, 2 * (n - 2)); }
 static void their_standardise(void)
 {
@@ -69,6 +110,15 @@ static void their_gap(void)
 {
     sink += (uint64_t)plain_check(n, listing);
     sink += (uint64_t)plain_gap(n, cells, listing, gaps);
+}
+
+static void ours_rebuild(void) { sink += bench_rebuild(n, cells, n * n, standard, 2 * (n - 2)); }
+static void their_rebuild(void) { sink += (uint64_t)plain_rebuild(n, cells, standard); }
+static void ours_guided(void) { sink += bench_guided(n, cells, n * n, merges, 2 * (n - 1), standard, 2 * (n - 2)); }
+static void joining(void)
+{
+    neighbour_joining(n, cells, joined);
+    sink += joined[0];
 }
 
 static int by_value(const void *a, const void *b)
@@ -111,9 +161,102 @@ static double direct_ratio(void)
     return (t1 - t0) / ((t2 - t1) / 200);
 }
 
+static double least(double x, double y) { return x < y ? x : y; }
+
+/* The least of three times of our rebuild. */
+static double rebuild_time(void)
+{
+    double best = 1e300;
+    for (int r = 0; r < 3; r++) {
+        double t0 = now();
+        ours_rebuild();
+        best = least(best, now() - t0);
+    }
+    return best;
+}
+
+/* The slowest table with one cell, and its mirror, one too large, over the table itself. */
+static double damaged_ratio(void)
+{
+    double worst = 0, accepted = rebuild_time();
+    for (size_t i = 0; i < n; i++)
+        for (size_t j = i + 1; j < n; j++) {
+            cells[i * n + j]++;
+            cells[j * n + i]++;
+            double t = rebuild_time();
+            if (t > worst)
+                worst = t;
+            if (bench_rebuild(n, cells, n * n, standard, 2 * (n - 2)) != 6)
+                fail("a damaged table was accepted");
+            cells[i * n + j]--;
+            cells[j * n + i]--;
+        }
+    return worst / least(accepted, rebuild_time());
+}
+
+/* The tables that the rebuilds take. */
+static void table_of_listing(void)
+{
+    uint16_t expected[2 * MOST];
+    merges_of_rows();
+    if (bench_table(n, listing, 2 * (n - 2), cells, n * n) != 0
+        || bench_standardise(n, listing, 2 * (n - 2), expected, 2 * (n - 2)) != 0)
+        fail("a listing was refused");
+    if (bench_rebuild(n, cells, n * n, standard, 2 * (n - 2)) != 0
+        || memcmp(standard, expected, 2 * (n - 2) * sizeof *standard) != 0)
+        fail("a tree was not rebuilt");
+    memset(standard, 0, sizeof standard);
+    if (bench_guided(n, cells, n * n, merges, 2 * (n - 1), standard, 2 * (n - 2)) != 0
+        || memcmp(standard, expected, 2 * (n - 2) * sizeof *standard) != 0)
+        fail("a guided tree was not rebuilt");
+    memset(standard, 0, sizeof standard);
+    if (plain_rebuild(n, cells, standard) != 0 || memcmp(standard, expected, 2 * (n - 2) * sizeof *standard) != 0)
+        fail("plain C rebuilds another tree");
+}
+
+static void make(int shape)
+{
+    if (shape == 0)
+        comb();
+    else if (shape == 1)
+        balanced();
+    else
+        random_listing((uint32_t)n);
+}
+
+/* The median time of our rebuild at 128 leaves over that at 32, in rounds that take turns. */
+static double growth(int shape)
+{
+    static uint32_t small[32 * 32];
+    double t32[ROUNDS], t128[ROUNDS];
+    n = 32;
+    make(shape);
+    table_of_listing();
+    memcpy(small, cells, sizeof small);
+    n = 128;
+    make(shape);
+    table_of_listing();
+    for (int r = 0; r < ROUNDS; r++) {
+        double t0 = now();
+        for (int k = 0; k < 160; k++)
+            sink += bench_rebuild(32, small, 32 * 32, standard, 2 * 30);
+        double t1 = now();
+        for (int k = 0; k < 10; k++)
+            ours_rebuild();
+        double t2 = now();
+        t32[r] = (t1 - t0) / 160;
+        t128[r] = (t2 - t1) / 10;
+    }
+    qsort(t32, ROUNDS, sizeof *t32, by_value);
+    qsort(t128, ROUNDS, sizeof *t128, by_value);
+    return t128[ROUNDS / 2] / t32[ROUNDS / 2];
+}
+
 int main(void)
 {
     static const size_t counts[] = {16, 32, 64, 128};
+    static const char *const shapes[] = {"comb", "balanced", "random"};
+    printf("Ours over plain C of the same algorithm; and the direct count over our table:\n\n");
     printf("| n | standardise | table | gap | direct count / table |\n");
     printf("|---|---|---|---|---|\n");
     for (size_t c = 0; c < sizeof counts / sizeof *counts; c++) {
@@ -126,5 +269,21 @@ int main(void)
                ratio(ours_table, their_table, 40), ratio(ours_gap, their_gap, 40), direct);
         fflush(stdout);
     }
+    printf("\nThe rebuilds: ours over plain C of the same algorithm; neighbour joining over ours; the guided rebuild over\n");
+    printf("ours; the slowest table with one cell changed over the table itself:\n\n");
+    printf("| tree | n | rebuild | neighbour joining / rebuild | guided / rebuild | damaged / accepted |\n");
+    printf("|---|---|---|---|---|---|\n");
+    for (int shape = 0; shape < 3; shape++)
+        for (size_t c = 0; c < sizeof counts / sizeof *counts; c++) {
+            n = counts[c];
+            make(shape);
+            table_of_listing();
+            printf("| %s | %zu | %.2f | %.1f | %.2f | %.2f |\n", shapes[shape], n, ratio(ours_rebuild, their_rebuild, 40),
+                   ratio(joining, ours_rebuild, 4), ratio(ours_guided, ours_rebuild, 40), damaged_ratio());
+            fflush(stdout);
+        }
+    printf("\nOur rebuild at 128 leaves over that at 32, where n * n gives 16:");
+    for (int shape = 0; shape < 3; shape++)
+        printf(" %s %.1f%s", shapes[shape], growth(shape), shape < 2 ? "," : ".\n");
     return 0;
 }

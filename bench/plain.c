@@ -128,9 +128,9 @@ void direct_table(size_t n, const uint16_t *listing, uint32_t *out)
         }
 }
 
-int plain_gap(size_t n, const uint32_t *table, const uint16_t *listing, int64_t *out)
+/* 4 or 5, or 0. */
+static int wrong_table(size_t n, const uint32_t *table)
 {
-    uint32_t own[MOST * MOST];
     for (size_t i = 0; i < n; i++)
         if (table[i * n + i] != 0)
             return 4;
@@ -138,8 +138,140 @@ int plain_gap(size_t n, const uint32_t *table, const uint16_t *listing, int64_t 
         for (size_t j = i + 1; j < n; j++)
             if (table[i * n + j] != table[j * n + i])
                 return 5;
+    return 0;
+}
+
+int plain_gap(size_t n, const uint32_t *table, const uint16_t *listing, int64_t *out)
+{
+    uint32_t own[MOST * MOST];
+    int wrong = wrong_table(n, table);
+    if (wrong)
+        return wrong;
     plain_table(n, listing, own);
     for (size_t k = 0; k < n * n; k++)
         out[k] = (int64_t)table[k] - (int64_t)own[k];
     return 0;
+}
+
+/* A rebuild's subtrees: a leaf's label is the least leaf of its subtree, and sizes and names are kept by label. */
+typedef struct {
+    uint32_t p[MOST + 1], label[MOST], m[MOST];
+    size_t size[MOST];
+    uint16_t name[MOST];
+} forest;
+
+/* Whether every cell of the subtrees a and b has the value expected; the first cell is looked at first. */
+static int eligible(size_t n, const uint32_t *table, const forest *f, size_t a, size_t b)
+{
+    uint32_t rest = f->p[n - f->size[a] - f->size[b]];
+    if (table[a * n + b] != rest + f->m[a] + f->m[b])
+        return 0;
+    if (f->size[b] < f->size[a]) {
+        size_t c = a;
+        a = b;
+        b = c;
+    }
+    uint32_t rows = (uint32_t)a, columns = (uint32_t)b;
+    for (size_t x = 0; x < n; x++) {
+        if (f->label[x] != rows)
+            continue;
+        const uint32_t *row = table + x * n;
+        uint32_t e = rest + f->m[x], bad = 0;
+        for (size_t y = 0; y < n; y++)
+            bad += (f->label[y] == columns) & (row[y] != e + f->m[y]);
+        if (bad)
+            return 0;
+    }
+    return 1;
+}
+
+static void join(size_t n, forest *f, size_t a, size_t b)
+{
+    uint32_t pa = f->p[f->size[a]], pb = f->p[f->size[b]];
+    uint32_t la = (uint32_t)a, lb = (uint32_t)b;
+    for (size_t x = 0; x < n; x++) {
+        uint32_t l = f->label[x];
+        f->m[x] += (l == la ? pb : 0) + (l == lb ? pa : 0);
+        f->label[x] = l == lb ? la : l;
+    }
+    f->size[a] += f->size[b];
+}
+
+int plain_rebuild(size_t n, const uint32_t *table, uint16_t *out)
+{
+    int wrong = wrong_table(n, table);
+    if (wrong)
+        return wrong;
+    forest f;
+    children c;
+    size_t r = 0;
+    for (size_t k = 0; k <= n; k++)
+        f.p[k] = k ? pairs(k) : 0;
+    for (size_t i = 0; i < n; i++) {
+        f.label[i] = (uint32_t)i;
+        f.m[i] = 0;
+        f.size[i] = 1;
+        f.name[i] = (uint16_t)i;
+    }
+    for (size_t t = n - 1; t >= 1; t--)
+        for (size_t b = t + 1; b < n;) {
+            if (f.label[b] != b || !eligible(n, table, &f, t, b)) {
+                b++;
+                continue;
+            }
+            join(n, &f, t, b);
+            c.first[r] = f.name[t];
+            c.second[r] = f.name[b];
+            f.name[t] = (uint16_t)(n + r++);
+            b = t + 1;
+        }
+    for (size_t k = 1; k < n; k++)
+        if (f.label[k] != 1 || table[k] != f.m[k])
+            return 6;
+    emit(n, &c, f.name[1], 0, out);
+    return 0;
+}
+
+void neighbour_joining(size_t n, const uint32_t *table, uint16_t *joined)
+{
+    static double d[MOST][MOST];
+    double sum[MOST];
+    uint16_t live[MOST] = {0};
+    size_t many = n, steps = 0;
+    for (size_t i = 0; i < n; i++) {
+        live[i] = (uint16_t)i;
+        for (size_t j = 0; j < n; j++)
+            d[i][j] = i == j ? 0 : (double)pairs(n) - (double)table[i * n + j];
+    }
+    while (many > 2) {
+        size_t bi = 0, bj = 1;
+        double best = 1e300;
+        for (size_t x = 0; x < many; x++) {
+            sum[x] = 0;
+            for (size_t y = 0; y < many; y++)
+                sum[x] += d[live[x]][live[y]];
+        }
+        for (size_t x = 0; x < many; x++)
+            for (size_t y = x + 1; y < many; y++) {
+                double q = (double)(many - 2) * d[live[x]][live[y]] - sum[x] - sum[y];
+                if (q < best) {
+                    best = q;
+                    bi = x;
+                    bj = y;
+                }
+            }
+        uint16_t a = live[bi], b = live[bj];
+        joined[2 * steps] = a;
+        joined[2 * steps + 1] = b;
+        steps++;
+        for (size_t x = 0; x < many; x++) {
+            uint16_t k = live[x];
+            double v = (d[a][k] + d[b][k] - d[a][b]) / 2;
+            if (k != a && k != b)
+                d[a][k] = d[k][a] = v;
+        }
+        live[bj] = live[--many];
+    }
+    joined[2 * steps] = live[0];
+    joined[2 * steps + 1] = live[1];
 }

@@ -1,4 +1,5 @@
-/* Plain C of the same algorithms, for the bench to measure against. They take input that has been checked. */
+/* Plain C of the same algorithms, and two textbook ones, for the bench to measure against. They take lengths that have
+   been checked. */
 #ifndef PLAIN_H
 #define PLAIN_H
 #include <stddef.h>
@@ -14,4 +15,9 @@ void plain_table(size_t n, const uint16_t *listing, uint32_t *out);
 void direct_table(size_t n, const uint16_t *listing, uint32_t *out);
 /* The gap: checks 4 and 5, then the table's cells less the tree's. 0, 4 or 5. */
 int plain_gap(size_t n, const uint32_t *table, const uint16_t *listing, int64_t *out);
+/* The rebuild by eligible merges, n * n: checks 4 and 5, then the standard listing. 0, 4, 5 or 6. */
+int plain_rebuild(size_t n, const uint32_t *table, uint16_t *out);
+/* Textbook neighbour joining, n * n * n, with the counts taken for similarities: the pairs joined, as leaf numbers.
+   It makes no listing and refuses nothing. */
+void neighbour_joining(size_t n, const uint32_t *table, uint16_t *joined);
 #endif

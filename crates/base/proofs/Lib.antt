@@ -1,3 +1,4 @@
 pub mod Bools
 pub mod Counts
 pub mod Lists
+pub mod Filling

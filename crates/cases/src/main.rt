@@ -1,5 +1,6 @@
-// Runs the cases of the scope that no theorem lists, of the operations on trees and tables.
+// Runs the cases of the scope that no theorem lists, and the two rebuilds on tables like those that one does.
 use refusals::Outcome;
+use refusals::Refusal;
 ghost use mathlib.Core.Path.{_≡_};
 ghost use lib.ListN.{length};
 
@@ -11,6 +12,21 @@ fn say(answer: Outcome) {
     };
     io::write_all(1, b"refused ");
     io::print_decimal(1, refusals::number(cause) as u64);
+    io::write_all(1, b"\n");
+}
+
+// What the guided rebuild answered: 12 comes with its step.
+fn say_guided(answer: Outcome) {
+    let Outcome::Refused(cause) = answer else {
+        say(answer);
+        return;
+    };
+    let Refusal::Proposal(step) = cause else {
+        say(answer);
+        return;
+    };
+    io::write_all(1, b"refused 12 at step ");
+    io::print_decimal(1, step as u64);
     io::write_all(1, b"\n");
 }
 
@@ -36,6 +52,77 @@ fn gap_of_zeros() {
     say_whether(gaps[3] == 0);
 }
 
+fn say_number(number: u16) {
+    io::write_all(1, b" ");
+    io::print_decimal(1, number as u64);
+}
+
+// The six numbers of a listing of five leaves.
+fn say_listing(listing: &[u16; 6]) {
+    say_number(listing[0]);
+    say_number(listing[1]);
+    say_number(listing[2]);
+    say_number(listing[3]);
+    say_number(listing[4]);
+    say_number(listing[5]);
+    io::write_all(1, b"\n");
+}
+
+// P7's table.
+const FIVE: [u32; 25] = [
+    0,
+    3,
+    1,
+    0,
+    0,
+    3,
+    0,
+    1,
+    0,
+    0,
+    1,
+    1,
+    0,
+    1,
+    1,
+    0,
+    0,
+    1,
+    0,
+    3,
+    0,
+    0,
+    1,
+    3,
+    0,
+];
+
+// P7's table by our own rebuild.
+fn rebuild_five() {
+    let mut listing = [0u16; 6];
+    io::write_all(1, b"rebuild of five leaves: ");
+    say(reconstruct::rebuild(5, &FIVE, &mut listing));
+    say_listing(&listing);
+}
+
+// P7's table with one cell and its mirror changed: no tree has it, and the buffer is as it was.
+fn rebuild_damaged() {
+    let mut cells = FIVE;
+    let mut listing = [9u16; 6];
+    cells[1] = 2;
+    cells[5] = 2;
+    io::write_all(1, b"rebuild with one count changed: ");
+    say(reconstruct::rebuild(5, &cells, &mut listing));
+    say_listing(&listing);
+}
+
+// P7's table guided by these merges.
+fn guide_five(merges: &[u16; 8]) {
+    let mut listing = [9u16; 6];
+    say_guided(reconstruct::rebuild_guided(5, &FIVE, merges, &mut listing));
+    say_listing(&listing);
+}
+
 // A tree of 128 leaves: the node of each row takes the leaf that comes next.
 fn comb() -> [u16; 252]
     ensures { λ r. ⌜ length r ≡ 252 ⌝ }
@@ -53,20 +140,32 @@ fn comb() -> [u16; 252]
     listing
 }
 
-// Check and table, with this leaf count and a listing that is right for 128.
+// Check, table and rebuild, with this leaf count, and a listing and a table that are right for 128.
 fn leaf_count(n: usize) {
     let listing = comb();
     let mut cells = [0u32; 16384];
+    let mut rebuilt = [0u16; 252];
     say(listings::check(n, &listing));
     say(tables::table(n, &listing, &mut cells));
+    say(reconstruct::rebuild(n, &cells, &mut rebuilt));
 }
 
 fn main() {
     gap_of_zeros();
-    io::write_all(1, b"check and table, 2 leaves:\n");
+    rebuild_five();
+    rebuild_damaged();
+    io::write_all(1, b"guided by 3 4, 0 1, 2 3, 0 2: ");
+    guide_five(&[3, 4, 0, 1, 2, 3, 0, 2]);
+    io::write_all(1, b"guided by 4 3, 1 0, 4 2, 1 4: ");
+    guide_five(&[4, 3, 1, 0, 4, 2, 1, 4]);
+    io::write_all(1, b"guided by 3 4, 3 4, 2 3, 0 2: ");
+    guide_five(&[3, 4, 3, 4, 2, 3, 0, 2]);
+    io::write_all(1, b"guided from 0 2: ");
+    guide_five(&[0, 2, 3, 4, 0, 1, 0, 3]);
+    io::write_all(1, b"check, table and rebuild, 2 leaves:\n");
     leaf_count(2);
-    io::write_all(1, b"check and table, 129 leaves:\n");
+    io::write_all(1, b"check, table and rebuild, 129 leaves:\n");
     leaf_count(129);
-    io::write_all(1, b"check and table, 128 leaves:\n");
+    io::write_all(1, b"check, table and rebuild, 128 leaves:\n");
     leaf_count(128);
 }

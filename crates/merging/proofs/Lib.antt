@@ -1,6 +1,7 @@
 pub mod States
 pub mod Hanging
 pub mod Runs
+pub mod Values
 pub mod Soundness
 pub mod Completeness
 pub mod ThreeLeft
@@ -8,6 +9,7 @@ pub mod Exchange
 pub mod MergeLists
 pub mod Rebuilds
 pub mod Ends
+pub mod Rooted
 pub mod Demand3
 pub mod EdgesLeft
 pub mod SameTree

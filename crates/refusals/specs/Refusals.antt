@@ -66,6 +66,11 @@ unfoldable pub answered : {A : Type 0} → Option Refusal → A → Answer A
 answered none x = accepted x
 answered (some r) x = refused r
 
+-- the answer: the refusal that arises, or else this answer
+unfoldable pub unless : {A : Type 0} → Option Refusal → Answer A → Answer A
+unless none a = a
+unless (some r) a = refused r
+
 -- what code returns where no refusal arises, or this one
 unfoldable pub outcome-of : Option Refusal → Outcome
 outcome-of none = Done

@@ -1,5 +1,5 @@
 -- The answers of the two operations, from what was judged before them.
-use mathlib.Core.Path.{_≡_, refl, _∙_}
+use mathlib.Core.Path.{_≡_, _∙_}
 use mathlib.Core.List.{List}
 use mathlib.Core.Option.{none, some}
 use Prim.Native.Nat.{ℕ, _-_, _*_}
@@ -11,7 +11,7 @@ use Rattle.refusals.specs.declared.Refusal.{Refusal}
 use Rattle.refusals.specs.Refusals.{judged, answered, written}
 use Rattle.refusals.proofs.Answers.{written-done}
 use Rattle.trees.specs.Listings.{KeepsRules, tree-of, standard}
-use Rattle.trees.specs.Splits.{set-bytes, split-bytes}
+use Rattle.trees.specs.Splits.{set-bytes}
 use Rattle.trees.proofs.Splits.{split-bytes-many}
 use Rattle.listings.specs.Operations.{judged-listing, standardised, bad-question, split-listing, pairing-asked}
 use Rattle.listings.proofs.Judged.{rules-left}

@@ -18,3 +18,12 @@ place-small n i j h li lj = omega (arith, place n i j li lj, square-small n h)
 pub most-pairs : P most-leaves ≡ most-count
 unfolding P
 most-pairs = refl
+
+-- a cell and its mirror
+pub both-in : (n i j : ℕ) → i < n → j < n → (i * n + j < n * n) × (j * n + i < n * n)
+both-in n i j li lj = (place n i j li lj, place n j i lj li)
+
+pub both-small :
+    (n i j : ℕ) → n ≤ most-leaves → i < n → j < n
+    → (i * n + j < 16384) × (j * n + i < 16384)
+both-small n i j few li lj = (place-small n i j few li lj, place-small n j i few lj li)

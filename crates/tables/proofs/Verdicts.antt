@@ -1,13 +1,11 @@
 -- What the searches of the checks 4 and 5 find, as the answer that code gives.
 use mathlib.Core.Path.{_≡_}
-use mathlib.Core.List.{List, [], _∷_}
+use mathlib.Core.List.{List}
 use mathlib.Core.Option.{Option, none, some}
 use Prim.Native.Nat.{ℕ}
-use Rattle.refusals.specs.declared.Refusal.{Refusal}
 use Rattle.refusals.specs.declared.Refusal.the-variants.{Diagonal, Halves}
-use Rattle.refusals.specs.declared.Outcome.{Outcome}
 use Rattle.refusals.specs.declared.Outcome.the-variants.{Done, Refused}
-use Rattle.refusals.specs.Refusals.{judged, outcome-of}
+use Rattle.refusals.specs.Refusals.{outcome-of}
 use Rattle.trees.specs.Tables.{first-filled, first-unequal, wrong-table}
 use Rattle.tables.specs.Checks.{halves-refusal}
 
@@ -32,11 +30,3 @@ pub halves-decide :
     (n : ℕ) (t : List ℕ) → first-filled n t ≡ none → wrong-table n t ≡ halves-refusal (first-unequal n t)
 unfolding wrong-table halves-refusal
 halves-decide n t e = rw (e, wrong-table)
-
--- what is judged last decides
-pub last-told :
-    (r : Outcome) (o : Option Refusal) → r ≡ outcome-of o
-    → r ≡ outcome-of (judged (o ∷ []))
-unfolding judged
-last-told r none h = h
-last-told r (some x) h = h

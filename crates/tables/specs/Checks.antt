@@ -1,7 +1,7 @@
--- The checks of a table, 4 and 5, as the searches that make them see them; and all that is judged of a table.
+-- The checks of a table, 4 and 5, as the searches that make them see them. No public contract cites it.
 use mathlib.Core.Path.{_≡_}
 use mathlib.Core.Bool.{cond, not, _&&_}
-use mathlib.Core.List.{List, [], _∷_}
+use mathlib.Core.List.{List}
 use mathlib.Core.Option.{Option, none, some}
 use Prim.Native.Nat.{ℕ, _*_, _≤_}
 use lib.Dec.{ltb, eqb}
@@ -10,9 +10,7 @@ use Rattle.base.specs.Lists.{in-rows, find}
 use Rattle.pairs.specs.Limits.{most-leaves}
 use Rattle.refusals.specs.declared.Refusal.{Refusal}
 use Rattle.refusals.specs.declared.Refusal.the-variants.{Halves}
-use Rattle.refusals.specs.Refusals.{judged}
-use Rattle.trees.specs.Tables.{cell, wrong-table}
-use Rattle.listings.specs.Sizes.{bad-count, bad-length, bad-room}
+use Rattle.trees.specs.Tables.{cell}
 
 -- the cells of a table of n leaves, as many as are due
 pub record Square (n : ℕ) (t : List ℕ) : Type 0 where
@@ -31,8 +29,3 @@ unequal-from n t k =
 -- the refusal 5 of such a pair
 unfoldable pub halves-refusal : Option (ℕ × ℕ) → Option Refusal
 halves-refusal o = elim o [ some p ↦ some (Halves (p .0) (p .1)) | none ↦ none ]
-
--- a table of n leaves, and room for a result of so many numbers: 1, 2, 3, 4, 5
-unfoldable pub judged-table : (n : ℕ) (t : List ℕ) (due room : ℕ) → Option Refusal
-judged-table n t due room =
-    judged (bad-count n ∷ bad-length (n * n) (length t) ∷ bad-room due room ∷ wrong-table n t ∷ [])

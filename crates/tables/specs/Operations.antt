@@ -12,8 +12,13 @@ use Rattle.trees.specs.Trees.{Tree}
 use Rattle.trees.specs.Listings.{tree-of}
 use Rattle.trees.specs.Quartets.{quartets}
 use Rattle.trees.specs.Tables.{table-of, wrong-table}
-use Rattle.listings.specs.Sizes.{bad-count, bad-length}
+use Rattle.listings.specs.Sizes.{bad-count, bad-length, bad-room}
 use Rattle.listings.specs.Operations.{judged-listing}
+
+-- a table of n leaves, and room for a result of so many numbers: 1, 2, 3, 4, 5
+unfoldable pub judged-table : (n : ℕ) (t : List ℕ) (due room : ℕ) → Option Refusal
+judged-table n t due room =
+    judged (bad-count n ∷ bad-length (n * n) (length t) ∷ bad-room due room ∷ wrong-table n t ∷ [])
 
 -- the table of the tree that a listing stands for: 1, 2, 3, 7, 8
 unfoldable pub tabled : (n : ℕ) (l : List ℕ) (room : ℕ) → Answer (List ℕ)

@@ -14,8 +14,8 @@ ghost use Rattle.pairs.specs.Limits.{most-leaves, LeafCount};
 ghost use Rattle.refusals.specs.Refusals.{outcome, outcome-of, written};
 ghost use Rattle.trees.specs.Listings.{KeepsRules, tree-of};
 ghost use Rattle.trees.specs.Tables.{cell, table-of, first-filled, first-unequal, wrong-table};
-ghost use Rattle.tables.specs.Operations.{gaps, tabled, gapped};
-ghost use Rattle.tables.specs.Checks.{Square, below, unequal-from, halves-refusal, judged-table};
+ghost use Rattle.tables.specs.Operations.{judged-table, gaps, tabled, gapped};
+ghost use Rattle.tables.specs.Checks.{Square, below, unequal-from, halves-refusal};
 ghost use Rattle.tables.specs.Fills.{most-count, Sized, run, only, across, due, Painted};
 ghost use Rattle.tables.specs.Fills.{Meeting, Spreads, Spread, Cleared, gap-at};
 

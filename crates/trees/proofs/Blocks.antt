@@ -16,7 +16,7 @@ use Rattle.trees.proofs.Trees.{leaves-node, leaf-has, size-node, size-p
 use Rattle.trees.proofs.Forests.{use-row, uses, lawful, lawful-row, row-lawful}
 
 -- Rows one after the other: the first part has m rows.
-with-rows-append :
+pub with-rows-append :
     (f : ℕ → Tree) (r m : ℕ) (l k : List ℕ) → length l ≡ 2 * m
     → with-rows f r (l ++ k) ≡ with-rows (with-rows f r l) (r + m) k
 unfolding with-rows

@@ -35,7 +35,7 @@ unfolding with-row
 row-new f r a b = rw (eqb-same r)
 
 -- rows change nothing under the numbers before them
-rows-old : (f : ℕ → Tree) (r : ℕ) (l : List ℕ) (k : ℕ) → k < r → with-rows f r l k ≡ f k
+pub rows-old : (f : ℕ → Tree) (r : ℕ) (l : List ℕ) (k : ℕ) → k < r → with-rows f r l k ≡ f k
 unfolding with-rows with-row
 rows-old f r [] k h = refl
 rows-old f r (a ∷ []) k h = refl
@@ -67,6 +67,13 @@ pub under-leaf : (n : ℕ) (l : List ℕ) (k : ℕ) → k < n → under n l k �
 unfolding under
 under-leaf n l k h = rows-old leaf n l k h
 
+-- the node of row k joins what stands under its children, where these come before it
+pub under-node :
+    (n : ℕ) (l : List ℕ) (k : ℕ) → 2 * k + 1 < length l → getD l (2 * k) 0 < n + k → getD l (2 * k + 1) 0 < n + k
+    → under n l (n + k) ≡ node (under n l (getD l (2 * k) 0)) (under n l (getD l (2 * k + 1) 0))
+unfolding under
+under-node n l k h p q = rows-node leaf n l k h p q
+
 -- what the rules say of each place
 kept-at :
     (n : ℕ) (before : List ℕ) (p : ℕ) (l : List ℕ) → broken-from n before p l ≡ none → (q : ℕ) → q < length l
@@ -91,11 +98,10 @@ module _ (n : ℕ) (l : List ℕ) (c : LeafCount n) (w : KeepsRules n l) where
   pub under-row :
       (k : ℕ) → k < n - 2
       → under n l (n + k) ≡ node (under n l (getD l (2 * k) 0)) (under n l (getD l (2 * k + 1) 0))
-  unfolding under
   under-row k h =
       let first = child-before (2 * k) (omega (arith, w .numbers)) in
       let second = child-before (2 * k + 1) (omega (arith, w .numbers)) in
-      rows-node leaf n l k (omega (arith, w .numbers)) (omega arith) (omega arith)
+      under-node n l k (omega (arith, w .numbers)) (omega arith) (omega arith)
 
 -- each row makes a tree of distinct leaves below n
 after-row :

@@ -3,7 +3,7 @@ use mathlib.Core.Path.{_≡_, ap, sym, _∙_}
 use mathlib.Core.Option.{none}
 use borrow.Author.Needs.{needs}
 use Rattle.refusals.proofs.Answers.{outcome-answered, done-none, refused-some}
-use Rattle.listings.specs.Operations.{judged-listing, bad-question}
+use Rattle.listings.specs.Operations.{judged-listing}
 use Rattle.listings.proofs.Judged.{accepted-listing}
 use Rattle.shapes.specs.declared.Paired.the-variants.{As}
 use Rattle.shapes.proofs.Judging.{listing-refused, question-refused, question-answered}

@@ -14,7 +14,7 @@ use Rattle.listings.specs.Operations.{judged-listing}
 use Rattle.listings.proofs.Judged.{counted, accepted-listing}
 use Rattle.tables.specs.Operations.{gapped}
 use Rattle.tables.proofs.Places.{square-small}
-use Rattle.tables.proofs.Judging.{count-refused, cells-refused, listing-refused, table-refused, none-refused}
+use Rattle.tables.proofs.Judging.{count-refused, cells-refused, listing-refused, table-decides}
 use Rattle.tables.proofs.Judging.{gap-written}
 use Rattle.tables.proofs.gap.Statement.{statement}
 use Rattle.tables.proofs.gap.Tie as tie
@@ -92,7 +92,7 @@ returns-4 c =
     let made = c .before .before in
     let before = made .before in
     let found = refused-some _ _ (sym (made .wrong .ensures) ∙ c .enum-told4 .given .1) in
-    let arises = table-refused _ _ _ _ (few before) (all-cells before) (listing-fine before) _ found in
+    let arises = table-decides _ _ _ _ (few before) (all-cells before) (listing-fine before) ∙ found in
     let told = c .enum-told4 .given .1 ∙ ap outcome-of (sym arises) in
     (told ∙ sym (outcome-answered _ _), sym (written-refused _ _ _ _ arises))
 
@@ -112,7 +112,7 @@ returns-5 c =
     let done = put .before .before in
     let before = done .before .before .before in
     let found = done-none _ (sym (done .before .before .wrong .ensures) ∙ done .enum-told3 .given .1) in
-    let none = none-refused _ _ _ _ (few before) (all-cells before) (listing-fine before) found in
+    let none = table-decides _ _ _ _ (few before) (all-cells before) (listing-fine before) ∙ found in
     let told = ap outcome-of (sym none) ∙ sym (outcome-answered _ _) in
     (told, put .fill-gap .ensures ∙ sym (gap-written _ _ _ _ none))
 

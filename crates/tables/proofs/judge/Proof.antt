@@ -1,11 +1,12 @@
 -- `tables::judge` meets its contract: each test is the definition's next one, and a test that passes is passed over.
+use mathlib.Core.Path.{ap, sym, _∙_}
 use native.Mathlib.Omega.{arith}
 use borrow.Author.Needs.{needs}
 use borrow.Author.Tests.{lt-leb, le-leb, eq-eqb, ne-eqb}
 use Rattle.refusals.specs.Refusals.{judged, outcome-of}
+use Rattle.refusals.proofs.Answers.{judged-alone}
 use Rattle.listings.specs.Sizes.{bad-count, bad-length, bad-room}
-use Rattle.tables.specs.Checks.{judged-table}
-use Rattle.tables.proofs.Verdicts.{last-told}
+use Rattle.tables.specs.Operations.{judged-table}
 use Rattle.tables.proofs.Places.{square-small}
 use Rattle.tables.proofs.judge.Statement.{statement}
 use Rattle.tables.proofs.judge.Tie as tie
@@ -47,7 +48,7 @@ returns-5 c =
       le-leb _ _ (c .before .before .before .if2 .left),
       eq-eqb _ _ (c .before .before .if3 .left),
       le-leb _ _ (c .before .if4 .left),
-    ) (last-told _ _ (c .wrong .ensures))
+    ) (c .wrong .ensures ∙ ap outcome-of (sym (judged-alone _)))
 
 pub judge-spec : {M : Type 1} → statement M
 judge-spec =

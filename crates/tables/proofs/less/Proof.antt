@@ -14,7 +14,10 @@ cast-result-2 c = search needs
 sub-result : tie.Need-sub-result
 sub-result c =
     rw (wide (c .args .cell) (search needs), wide (c .args .tree) (search needs))
-    (difference-fits (c .args .cell) (c .args .tree) (search needs) (search needs))
+    (search (
+      difference-fits (c .args .cell) (c .args .tree) (search needs) (search needs),
+      difference-fits (c .args .tree) (c .args .cell) (search needs) (search needs),
+    ))
 
 returns : tie.Need-returns
 returns c =

@@ -2,39 +2,38 @@
 use native.Mathlib.Omega.{arith}
 use borrow.Author.Needs.{needs}
 use lib.ListN.{length-set}
-use Rattle.base.proofs.Lists.{place}
-use Rattle.tables.proofs.Places.{place-small}
+use Rattle.tables.proofs.Places.{both-in, both-small}
 use Rattle.tables.proofs.put.Statement.{statement}
 use Rattle.tables.proofs.put.Tie as tie
 
 mul-out : tie.Need-mul-out
-mul-out c = omega (arith, place-small (c .args .n) (c .args .i) (c .args .j) (omega arith) (omega arith) (omega arith))
+mul-out c = omega (arith, both-small (c .args .n) (c .args .i) (c .args .j) (omega arith) (omega arith) (omega arith))
 
 add-out : tie.Need-add-out
-add-out c = omega (arith, place-small (c .args .n) (c .args .i) (c .args .j) (omega arith) (omega arith) (omega arith))
+add-out c = omega (arith, both-small (c .args .n) (c .args .i) (c .args .j) (omega arith) (omega arith) (omega arith))
 
 mul-out-2 : tie.Need-mul-out-2
 mul-out-2 c =
-    omega (arith, place-small (c .args .n) (c .args .i) (c .args .j) (omega arith) (omega arith) (omega arith))
+    omega (arith, both-small (c .args .n) (c .args .i) (c .args .j) (omega arith) (omega arith) (omega arith))
 
 slice-write-out : tie.Need-slice-write-out
-slice-write-out c = omega (arith, place (c .args .n) (c .args .i) (c .args .j) (omega arith) (omega arith))
+slice-write-out c = omega (arith, both-in (c .args .n) (c .args .i) (c .args .j) (omega arith) (omega arith))
 
 mul-out-3 : tie.Need-mul-out-3
 mul-out-3 c =
-    omega (arith, place-small (c .args .n) (c .args .j) (c .args .i) (omega arith) (omega arith) (omega arith))
+    omega (arith, both-small (c .args .n) (c .args .i) (c .args .j) (omega arith) (omega arith) (omega arith))
 
 add-out-2 : tie.Need-add-out-2
 add-out-2 c =
-    omega (arith, place-small (c .args .n) (c .args .j) (c .args .i) (omega arith) (omega arith) (omega arith))
+    omega (arith, both-small (c .args .n) (c .args .i) (c .args .j) (omega arith) (omega arith) (omega arith))
 
 mul-out-4 : tie.Need-mul-out-4
 mul-out-4 c =
-    omega (arith, place-small (c .args .n) (c .args .j) (c .args .i) (omega arith) (omega arith) (omega arith))
+    omega (arith, both-small (c .args .n) (c .args .i) (c .args .j) (omega arith) (omega arith) (omega arith))
 
 slice-write-out-2 : tie.Need-slice-write-out-2
 slice-write-out-2 c =
-    simp length-set (omega (arith, place (c .args .n) (c .args .j) (c .args .i) (omega arith) (omega arith)))
+    simp length-set (omega (arith, both-in (c .args .n) (c .args .i) (c .args .j) (omega arith) (omega arith)))
 
 same-length : tie.Need-same-length
 same-length c = search needs

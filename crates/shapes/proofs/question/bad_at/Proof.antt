@@ -9,7 +9,6 @@ use borrow.Author.Needs.{needs}
 use lib.Dec.{leb, eqb}
 use lib.ListN.{getD}
 use Rattle.base.proofs.Bools.{or-left, or-right, or-none}
-use Rattle.listings.specs.Operations.{wrong-at}
 use Rattle.shapes.proofs.Finds.{any-before, none-before}
 use Rattle.shapes.proofs.question.bad_at.Statement.{statement}
 use Rattle.shapes.proofs.question.bad_at.Tie as tie
@@ -30,7 +29,11 @@ wide-requires : tie.Need-wide-requires Inv-loop μ-loop
 wide-requires c κs = search needs
 
 returns : tie.Need-returns Inv-loop μ-loop
-returns c = sym (or-left _ _ (le-leb _ _ (rw (c .before .wide .ensures) at (c .if1 .taken))))
+returns c =
+    let s = c .before .before in
+    let x = getD (s .args .t2) (s .args .p) 0 in
+    let past : s .args .n ≤ x = omega (arith, c .before .wide .ensures, c .if1 .taken) in
+    sym (or-left _ _ (le-leb _ _ past))
 
 loop-holds : tie.Need-loop-holds Inv-loop μ-loop
 loop-holds c = (omega arith, λ k h. absurd (omega arith))
@@ -66,8 +69,8 @@ returns-3 c =
     let s = c .before .before .before .before in
     let l = c .before .loop in
     let x = getD (s .args .t2) (s .args .p) 0 in
-    let leaf = lt-leb _ _ (rw (c .before .before .before .wide .ensures) at (c .before .before .if1 .left)) in
-    sym (or-none _ _ leaf
+    let leaf : x < s .args .n = omega (arith, c .before .before .before .wide .ensures, c .before .before .if1 .left) in
+    sym (or-none _ _ (lt-leb _ _ leaf)
     (none-before (eqb x) 0 (s .args .t2) (s .args .p) (omega arith) (λ k h. l .inv .1 k (omega arith))))
 
 pub bad-at-spec : {M : Type 1} → statement M

@@ -1,0 +1,275 @@
+-- The climb of leaf t: it begins, each merge with a partner adds a row, and it ends where no partner is left. The idea:
+-- a pair of two other subtrees that was not eligible stays so, since no merge touches it.
+use mathlib.Core.Path.{_≡_, refl, sym, ap, _∙_}
+use mathlib.Core.Logic.{inl, inr}
+use mathlib.Core.Bool.{true, false, _||_}
+use mathlib.Core.List.{List}
+use Prim.Native.Nat.{ℕ, _+_, _*_, _≤_, _<_}
+use native.Mathlib.Omega.{arith}
+use native.Mathlib.Decide.{decLt, ℕ-discrete}
+use lib.ListN.{length, getD, set, length-set}
+use lib.Seq.{take-set-le, getD-set-same, getD-set-other}
+use Rattle.base.proofs.Bools.{bool?, never, is-false, or-left, or-none, or-neither}
+use Rattle.pairs.specs.Limits.{most-leaves}
+use Rattle.trees.specs.Trees.{leaves, least, join}
+use Rattle.trees.specs.Listings.{under}
+use Rattle.trees.specs.Tables.{cell}
+use Rattle.trees.proofs.Trees.{leaf-eq, least-in, least-le, leaves-join, join-in-order, least-join}
+use Rattle.trees.proofs.Tables.{halves-equal}
+use Rattle.trees.proofs.Rows.{under-node}
+use Rattle.merging.specs.Merging.{State, step}
+use Rattle.merging.proofs.States.{WellFormed, wf-start, step-in, step-out}
+use Rattle.merging.proofs.Runs.{Eligible, wf-go, wf-runs, runs-more, eligible-sym, eligible-move, eligible-back}
+use Rattle.merging.proofs.MergeLists.{subtrees-pos, subtrees-step}
+use Rattle.reconstruct.specs.Fits.{Given, Fair, Joins}
+use Rattle.reconstruct.specs.Merged.{Merges, Merged}
+use Rattle.reconstruct.specs.Held.{Holds, Listed, Current, Climbing, Climbed}
+use Rattle.reconstruct.proofs.Held.{is-least, meets-eligible, eligible-meets, fair, two-merges, still}
+use Rattle.reconstruct.proofs.Held.{holds-step}
+use Rattle.reconstruct.proofs.Rows.{under-same}
+
+-- there is room for one more row
+pub row-room :
+    {n : ℕ} {S : State} → WellFormed n S → {label names rows : List ℕ} {r : ℕ} → Listed n label names rows r S
+    → {c : ℕ → ℕ → ℕ} (i k : ℕ) → Eligible n 1 c S i k → r + 2 ≤ n
+row-room {n} w l i k e =
+    let z : 0 < n = omega (arith, e .left) in
+    omega (arith, l .counted, subtrees-step w i k e, subtrees-pos (wf-go w i k e) z)
+
+-- The rows after a merge of the subtrees labelled i and k, i < k.
+module _ {n : ℕ} {S : State} (w : WellFormed n S) {label m sizes names rows : List ℕ} {r : ℕ}
+    (h : Holds n label m sizes S) (l : Listed n label names rows r S) {c : ℕ → ℕ → ℕ} (i k : ℕ) (ik : i < k)
+    (oi : getD label i 0 ≡ i) (ok : getD label k 0 ≡ k) (e : Eligible n 1 c S i k) (few : n ≤ most-leaves)
+    {label′ m′ sizes′ : List ℕ} (d : Merged n label m sizes label′ m′ sizes′ i k) where
+  room : r + 2 ≤ n
+  room = row-room w l i k e
+
+  abbrev names′ : List ℕ
+  names′ = set names i (n + r)
+
+  abbrev rows₁ : List ℕ
+  rows₁ = set rows (2 * r) (getD names i 0)
+
+  abbrev rows′ : List ℕ
+  rows′ = set rows₁ (2 * r + 1) (getD names k 0)
+
+  long : length rows′ ≡ 2 * most-leaves
+  long = length-set rows₁ (2 * r + 1) (getD names k 0) ∙ length-set rows (2 * r) (getD names i 0) ∙ l .rows-long
+
+  before : (x : ℕ) → x < 2 * r → getD rows′ x 0 ≡ getD rows x 0
+  before x lx =
+      getD-set-other rows₁ (2 * r + 1) x (getD names k 0) 0 (omega arith)
+      ∙ getD-set-other rows (2 * r) x (getD names i 0) 0 (omega arith)
+
+  first-child : getD rows′ (2 * r) 0 ≡ getD names i 0
+  first-child =
+      getD-set-other rows₁ (2 * r + 1) (2 * r) (getD names k 0) 0 (omega arith)
+      ∙ getD-set-same rows (2 * r) (getD names i 0) 0 (omega (arith, l .rows-long, room))
+
+  second-child : getD rows′ (2 * r + 1) 0 ≡ getD names k 0
+  second-child =
+      getD-set-same rows₁ (2 * r + 1) (getD names k 0) 0
+      (omega (arith, length-set rows (2 * r) (getD names i 0), l .rows-long, room))
+
+  kept : (v : ℕ) → v < n + r → under n rows′ v ≡ under n rows v
+  kept v lv =
+      under-same n r rows rows′ (omega (arith, l .rows-long, room)) (omega (arith, long, room))
+      (take-set-le (2 * r) rows₁ (2 * r + 1) (getD names k 0) (omega arith)
+      ∙ take-set-le (2 * r) rows (2 * r) (getD names i 0) (omega arith)) v lv
+
+  name-i : (getD names i 0 < n + r) × (under n rows (getD names i 0) ≡ S .tree i)
+  name-i = l .named i (e .left) oi
+
+  name-k : (getD names k 0 < n + r) × (under n rows (getD names k 0) ≡ S .tree k)
+  name-k = l .named k (e .right) ok
+
+  new-node : under n rows′ (n + r) ≡ (step S i k) .tree i
+  new-node =
+      let less : least (S .tree i) < least (S .tree k) =
+      rw (is-least w h i (e .left) oi, is-least w h k (e .right) ok) ik in
+      under-node n rows′ r (omega (arith, long, room)) (rw first-child (name-i .0)) (rw second-child (name-k .0))
+      ∙ rw (
+        first-child,
+        second-child,
+        kept (getD names i 0) (name-i .0),
+        kept (getD names k 0) (name-k .0),
+        name-i .1,
+        name-k .1,
+        step-in S i k i (or-left _ _ (w .own i)),
+      )
+      (sym (join-in-order (S .tree i) (S .tree k) less))
+
+  named′ :
+      (x : ℕ) → x < n → getD label′ x 0 ≡ x
+      → (getD names′ x 0 < n + (r + 1)) × (under n rows′ (getD names′ x 0) ≡ (step S i k) .tree x)
+  named′ x lx o = elim (ℕ-discrete x i) [
+    | yes z ↦
+        let own-name = getD-set-same names i (n + r) 0 (omega (arith, l .names-long, e .left)) in
+        rw (z, own-name) (omega arith, new-node)
+    | no z ↦
+        let u = still w h i k ik oi ok e few d x lx o z in
+        let v = l .named x lx (u .0) in
+        rw (getD-set-other names i x (n + r) 0 z, u .1) (omega (arith, v .0), kept (getD names x 0) (v .0) ∙ v .1)
+  ]
+
+  pub listed-step : Listed n label′ names′ rows′ (r + 1) (step S i k)
+  listed-step = record {
+    names-long = length-set names i (n + r) ∙ l .names-long;
+    rows-long = long;
+    named = named′;
+    earlier = λ x lx. elim (ℕ-discrete x r) [
+      | yes z ↦ rw (z, first-child, second-child) (name-i .0, name-k .0)
+      | no z ↦ rw (before (2 * x) (omega arith), before (2 * x + 1) (omega arith)) (l .earlier x (omega arith))
+    ];
+    counted = omega (arith, l .counted, subtrees-step w i k e);
+  }
+
+-- A climb begins: the leaf is its own subtree.
+pub begin :
+    {n : ℕ} {table label m sizes names rows : List ℕ} {r t : ℕ}
+    → Climbed n table label m sizes names rows r (t + 1) → Climbing n table label m sizes names rows r t
+begin {t = t} b = record {
+  state = b .state;
+  forest = b .forest;
+  current = record {
+    low = λ k l. b .done .low k (omega arith);
+    own = rw (b .done .low t (omega arith)) (unfold least in refl);
+    spent = λ x y lx ly p q e. b .done .spent x y (omega arith) (omega arith) e;
+  };
+}
+
+module _ {n : ℕ} {table p label m sizes names rows : List ℕ} {r t : ℕ} (g : Given n table p)
+    (b : Climbing n table label m sizes names rows r t) (lt : t < n) where
+  abbrev S : State
+  S = b .state
+
+  w : WellFormed n (b .state)
+  w = wf-runs (wf-start n) (b .forest .came)
+
+  pub own-label : getD label t 0 ≡ t
+  own-label = b .forest .holds .labels t lt ∙ b .current .own
+
+  pub climbing-fair : Fair n table label m sizes p
+  climbing-fair = fair w (b .forest .holds) (b .forest .came) g
+
+  -- A merge with the partner k.
+  module _ (k : ℕ) (lk : k < n) (f : (t < k) × Joins n table label m sizes t k) where
+    abbrev tk : t < k
+    tk = f .0
+
+    abbrev ok : getD label k 0 ≡ k
+    ok = f .1 .0
+
+    pair : Eligible n 1 (cell n table) (b .state) t k
+    pair = meets-eligible w (b .forest .holds) table t k lt lk own-label ok (omega (arith, tk)) (f .1 .1)
+
+    pub merges : Merges n label m sizes p t k
+    merges = two-merges w (b .forest .holds) (record {
+      fair = climbing-fair;
+      first = lt;
+      second = lk;
+      differ = omega (arith, tk);
+      own-first = own-label;
+      own-second = ok;
+    })
+
+    -- leaves below t are in neither subtree
+    low-out : (x : ℕ) → x < t → (leaves (b .state .tree t) x || leaves (b .state .tree k) x) ≡ false
+    low-out x l = or-none _ _ (out t l lt own-label) (out k (omega arith) lk ok)
+      where
+        out : (j : ℕ) → x < j → j < n → getD label j 0 ≡ j → leaves (b .state .tree j) x ≡ false
+        out j xj lj oj = is-false (leaves (b .state .tree j) x) (λ in-j.
+            omega (arith, least-le (b .state .tree j) x in-j, is-least w (b .forest .holds) j lj oj))
+
+    current-step : Current n table t (step (b .state) t k)
+    current-step = record {
+      low = λ x l. step-out (b .state) t k x (low-out x l) ∙ b .current .low x l;
+      own = rw joined (least-join (b .state .tree t) (b .state .tree k) less ∙ b .current .own);
+      spent = λ x y lx ly px py e.
+          let qx = rw (joined, leaves-join) at px in
+          let qy = rw (joined, leaves-join) at py in
+          b .current .spent x y lx ly ((or-neither (leaves (b .state .tree t) x) (leaves (b .state .tree k) x) qx) .0)
+          ((or-neither (leaves (b .state .tree t) y) (leaves (b .state .tree k) y) qy) .0)
+          (eligible-back w t k x y qx qy e);
+    }
+      where
+        less : least (b .state .tree t) < least (b .state .tree k)
+        less = rw (b .current .own, is-least w (b .forest .holds) k lk ok) tk
+
+        joined : (step (b .state) t k) .tree t ≡ join (b .state .tree t) (b .state .tree k)
+        joined = step-in (b .state) t k t (or-left _ _ (w .own t))
+
+    pub climb-room : r + 2 ≤ n
+    climb-room = row-room w (b .forest .listed) t k pair
+
+    pub climb-step :
+        {label′ m′ sizes′ names′ rows′ : List ℕ} → Merged n label m sizes label′ m′ sizes′ t k
+        → names′ ≡ set names t (n + r)
+        → rows′ ≡ set (set rows (2 * r) (getD names t 0)) (2 * r + 1) (getD names k 0)
+        → Climbing n table label′ m′ sizes′ names′ rows′ (r + 1) t
+    climb-step d en er =
+        let h = b .forest .holds in
+        let few = g .leaf-count .1 in
+        let l = listed-step w h (b .forest .listed) t k tk own-label ok pair few d in
+        record {
+          state = step (b .state) t k;
+          forest = record {
+            came = runs-more (b .forest .came) t k pair;
+            holds = holds-step w h t k tk own-label ok pair few d;
+            listed = rw (en, er) l;
+          };
+          current = current-step;
+        }
+
+  -- A climb ends: no label after t may be merged with t.
+  module _ (miss : (k : ℕ) → t < k → k < n → Joins n table label m sizes t k → ⊥) where
+    -- a pair with a leaf of t's subtree would have been found, at the least leaf of the other one
+    with-t :
+        (x y : ℕ) → t ≤ y → leaves (b .state .tree t) x ≡ true → Eligible n 1 (cell n table) (b .state) x y → ⊥
+    with-t x y ty px e = miss k tk lk (ok, eligible-meets w (b .forest .holds) table t k lt lk own-label ok moved)
+      where
+        k : ℕ
+        k = least (b .state .tree y)
+
+        k-in : leaves (b .state .tree y) k ≡ true
+        k-in = least-in (b .state .tree y)
+
+        same : b .state .tree k ≡ b .state .tree y
+        same = w .closed y k k-in
+
+        lk : k < n
+        lk = w .below y k (e .right) k-in
+
+        ok : getD label k 0 ≡ k
+        ok = b .forest .holds .labels k lk ∙ ap least same
+
+        moved : Eligible n 1 (cell n table) (b .state) t k
+        moved = eligible-move w x y t k lt lk px (rw same (w .own y)) e
+
+        tk : t < k
+        tk = elim (decLt t k) [
+          | yes l ↦ l
+          | no f ↦ elim (ℕ-discrete k t) [
+            | yes z ↦ absurd (never (w .own t) (rw z at (moved .apart)))
+            | no z ↦ absurd (omega (arith, leaf-eq y k (rw (← same, b .current .low k (omega arith)) at (w .own y))))
+          ]
+        ]
+
+    pub climb-over : Climbed n table label m sizes names rows r t
+    climb-over = record {
+      state = b .state;
+      forest = b .forest;
+      done = record {
+        low = b .current .low;
+        spent = λ x y tx ty e. elim (bool? (leaves (b .state .tree t) x)) [
+          | inl px ↦ with-t x y ty px e
+          | inr px ↦ elim (bool? (leaves (b .state .tree t) y)) [
+            | inl py ↦ with-t y x tx py (eligible-sym (halves-equal (g .is-table)) w x y e)
+            | inr py ↦ b .current .spent x y (above x tx px) (above y ty py) px py e
+          ]
+        ];
+      };
+    }
+      where
+        above : (x : ℕ) → t ≤ x → leaves (b .state .tree t) x ≡ false → t < x
+        above x tx px = elim (ℕ-discrete x t) [ yes z ↦ absurd (never (w .own t) (rw z at px)) | no z ↦ omega arith ]

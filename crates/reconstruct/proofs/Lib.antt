@@ -1,0 +1,11 @@
+pub mod Bounds
+pub mod Fits
+pub mod Merged
+pub mod Held
+pub mod Rows
+pub mod Climbs
+pub mod Emitted
+pub mod Results
+pub mod Proposals
+pub mod Judged
+pub mod Promises

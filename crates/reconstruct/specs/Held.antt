@@ -1,0 +1,81 @@
+-- What the arrays of a rebuild stand for: a state that merging reaches, and rows for the subtrees in it.
+use mathlib.Core.Path.{_≡_}
+use mathlib.Core.Bool.{false}
+use mathlib.Core.List.{List}
+use Prim.Native.Nat.{ℕ, _+_, _*_, _≤_, _<_}
+use lib.ListN.{length, getD, replicate}
+use Rattle.pairs.specs.Limits.{most-leaves}
+use Rattle.trees.specs.Trees.{leaf, leaves, size, least}
+use Rattle.trees.specs.Listings.{under}
+use Rattle.trees.specs.Tables.{cell}
+use Rattle.merging.specs.Merging.{State, start}
+use Rattle.merging.specs.MergeLists.{subtrees}
+use Rattle.merging.proofs.Runs.{Eligible, Runs}
+
+-- the arrays hold the state S: a leaf's label is the least leaf of its subtree; m and sizes are those of S
+pub record Holds (n : ℕ) (label m sizes : List ℕ) (S : State) : Type 0 where
+  pub label-long : length label ≡ most-leaves
+  pub m-long : length m ≡ most-leaves
+  pub sizes-long : length sizes ≡ most-leaves
+  pub labels : (k : ℕ) → k < n → getD label k 0 ≡ least (S .tree k)
+  pub sums : (k : ℕ) → k < n → getD m k 0 ≡ S .m k
+  pub sized : (k : ℕ) → k < n → getD label k 0 ≡ k → getD sizes k 0 ≡ size (S .tree k)
+
+-- r rows are written, one for each merge so far: the name of a label is the number of its subtree in them
+pub record Listed (n : ℕ) (label names rows : List ℕ) (r : ℕ) (S : State) : Type 0 where
+  pub names-long : length names ≡ most-leaves
+  pub rows-long : length rows ≡ 2 * most-leaves
+  pub named :
+      (k : ℕ) → k < n → getD label k 0 ≡ k
+      → (getD names k 0 < n + r) × (under n rows (getD names k 0) ≡ S .tree k)
+  pub earlier : (k : ℕ) → k < r → (getD rows (2 * k) 0 < n + k) × (getD rows (2 * k + 1) 0 < n + k)
+  pub counted : r + subtrees n S ≡ n
+
+-- leaf t's subtree is the current one: leaves below t are single, t is its least leaf, and no two of the other subtrees
+-- are eligible
+pub record Current (n : ℕ) (table : List ℕ) (t : ℕ) (S : State) : Type 0 where
+  pub low : (k : ℕ) → k < t → S .tree k ≡ leaf k
+  pub own : least (S .tree t) ≡ t
+  pub spent :
+      (a b : ℕ) → t < a → t < b → leaves (S .tree t) a ≡ false → leaves (S .tree t) b ≡ false
+      → Eligible n 1 (cell n table) S a b → ⊥
+
+-- no leaf's is: leaves below t are single, and no two subtrees of the others are eligible
+pub record Done (n : ℕ) (table : List ℕ) (t : ℕ) (S : State) : Type 0 where
+  pub low : (k : ℕ) → k < t → S .tree k ≡ leaf k
+  pub spent : (a b : ℕ) → t ≤ a → t ≤ b → Eligible n 1 (cell n table) S a b → ⊥
+
+-- the arrays after r merges, and the state S that these reached
+pub record Forest (n : ℕ) (table label m sizes names rows : List ℕ) (r : ℕ) (S : State) : Type 0 where
+  pub came : Runs n 1 (cell n table) start S
+  pub holds : Holds n label m sizes S
+  pub listed : Listed n label names rows r S
+
+-- while leaf t climbs
+pub record Climbing (n : ℕ) (table label m sizes names rows : List ℕ) (r t : ℕ) : Type 0 where
+  pub state : State
+  pub forest : Forest n table label m sizes names rows r state
+  pub current : Current n table t state
+
+-- when the leaves from t on have climbed
+pub record Climbed (n : ℕ) (table label m sizes names rows : List ℕ) (r t : ℕ) : Type 0 where
+  pub state : State
+  pub forest : Forest n table label m sizes names rows r state
+  pub done : Done n table t state
+
+-- when all leaves but 0 have
+pub record ClimbedAll (n : ℕ) (table label m sizes names rows : List ℕ) : Type 0 where
+  pub many : ℕ
+  pub climbed : Climbed n table label m sizes names rows many 1
+
+-- the arrays as they are made
+pub record Fresh (label m sizes names rows : List ℕ) : Type 0 where
+  pub label-made : label ≡ replicate most-leaves 0
+  pub m-made : m ≡ replicate most-leaves 0
+  pub sizes-made : sizes ≡ replicate most-leaves 1
+  pub names-made : names ≡ replicate most-leaves 0
+  pub rows-made : rows ≡ replicate (2 * most-leaves) 0
+
+-- every leaf from 1 on is in the subtree of leaf 1, and its cell in the first row is its m
+abbrev pub Whole : ℕ → List ℕ → List ℕ → List ℕ → Type 0
+Whole n table label m = (k : ℕ) → k < n → 1 ≤ k → (getD label k 0 ≡ 1) × (getD table k 0 ≡ getD m k 0)
