@@ -1,6 +1,8 @@
 /* Measures the part against plain C of the same algorithm, against counting quartets directly and against textbook
-   neighbour joining. Each figure is a ratio of medians of interleaved rounds in this one run; no bare time is printed. */
+   neighbour joining. Each figure is a ratio of medians of interleaved rounds in this one run; no bare time is
+   printed. */
 #define _POSIX_C_SOURCE 200809L
+#include "../include/quartree.h"
 #include "plain.h"
 #include <stdio.h>
 #include <stdlib.h>
@@ -8,15 +10,6 @@
 #include <time.h>
 
 enum { MOST = 128, ROUNDS = 41 };
-
-/* The part: 0, or the number of the refusal. A slice is its address and its length. */
-uint32_t bench_standardise(size_t n, const uint16_t *listing, size_t listing_len, uint16_t *out, size_t out_len);
-uint32_t bench_table(size_t n, const uint16_t *listing, size_t listing_len, uint32_t *out, size_t out_len);
-uint32_t bench_gap(size_t n, const uint32_t *cells, size_t cells_len, const uint16_t *listing, size_t listing_len,
-                   int64_t *out, size_t out_len);
-uint32_t bench_rebuild(size_t n, const uint32_t *cells, size_t cells_len, uint16_t *out, size_t out_len);
-uint32_t bench_guided(size_t n, const uint32_t *cells, size_t cells_len, const uint16_t *merges, size_t merges_len,
-                      uint16_t *out, size_t out_len);
 
 static uint16_t listing[2 * MOST], standard[2 * MOST], merges[2 * MOST], joined[2 * MOST];
 static uint32_t table[MOST * MOST], cells[MOST * MOST];
@@ -93,28 +86,31 @@ static void merges_of_rows(void)
     merges[2 * (n - 2) + 1] = 1;
 }
 
-static void ours_standardise(void) { sink += bench_standardise(n, listing, 2 * (n - 2), standard, 2 * (n - 2)); }
+static void ours_standardise(void) { sink += quartree_standardise(n, listing, 2 * (n - 2), standard, 2 * (n - 2)); }
 static void their_standardise(void)
 {
     sink += (uint64_t)plain_check(n, listing);
     plain_standardise(n, listing, standard);
 }
-static void ours_table(void) { sink += bench_table(n, listing, 2 * (n - 2), table, n * n); }
+static void ours_table(void) { sink += quartree_table(n, listing, 2 * (n - 2), table, n * n); }
 static void their_table(void)
 {
     sink += (uint64_t)plain_check(n, listing);
     plain_table(n, listing, table);
 }
-static void ours_gap(void) { sink += bench_gap(n, cells, n * n, listing, 2 * (n - 2), gaps, n * n); }
+static void ours_gap(void) { sink += quartree_gap(n, cells, n * n, listing, 2 * (n - 2), gaps, n * n); }
 static void their_gap(void)
 {
     sink += (uint64_t)plain_check(n, listing);
     sink += (uint64_t)plain_gap(n, cells, listing, gaps);
 }
 
-static void ours_rebuild(void) { sink += bench_rebuild(n, cells, n * n, standard, 2 * (n - 2)); }
+static void ours_rebuild(void) { sink += quartree_rebuild(n, cells, n * n, standard, 2 * (n - 2)); }
 static void their_rebuild(void) { sink += (uint64_t)plain_rebuild(n, cells, standard); }
-static void ours_guided(void) { sink += bench_guided(n, cells, n * n, merges, 2 * (n - 1), standard, 2 * (n - 2)); }
+static void ours_guided(void)
+{
+    sink += quartree_rebuild_guided(n, cells, n * n, merges, 2 * (n - 1), standard, 2 * (n - 2));
+}
 static void joining(void)
 {
     neighbour_joining(n, cells, joined);
@@ -186,7 +182,7 @@ static double damaged_ratio(void)
             double t = rebuild_time();
             if (t > worst)
                 worst = t;
-            if (bench_rebuild(n, cells, n * n, standard, 2 * (n - 2)) != 6)
+            if (quartree_rebuild(n, cells, n * n, standard, 2 * (n - 2)) != 6)
                 fail("a damaged table was accepted");
             cells[i * n + j]--;
             cells[j * n + i]--;
@@ -199,14 +195,14 @@ static void table_of_listing(void)
 {
     uint16_t expected[2 * MOST];
     merges_of_rows();
-    if (bench_table(n, listing, 2 * (n - 2), cells, n * n) != 0
-        || bench_standardise(n, listing, 2 * (n - 2), expected, 2 * (n - 2)) != 0)
+    if (quartree_table(n, listing, 2 * (n - 2), cells, n * n) != 0
+        || quartree_standardise(n, listing, 2 * (n - 2), expected, 2 * (n - 2)) != 0)
         fail("a listing was refused");
-    if (bench_rebuild(n, cells, n * n, standard, 2 * (n - 2)) != 0
+    if (quartree_rebuild(n, cells, n * n, standard, 2 * (n - 2)) != 0
         || memcmp(standard, expected, 2 * (n - 2) * sizeof *standard) != 0)
         fail("a tree was not rebuilt");
     memset(standard, 0, sizeof standard);
-    if (bench_guided(n, cells, n * n, merges, 2 * (n - 1), standard, 2 * (n - 2)) != 0
+    if (quartree_rebuild_guided(n, cells, n * n, merges, 2 * (n - 1), standard, 2 * (n - 2)) != 0
         || memcmp(standard, expected, 2 * (n - 2) * sizeof *standard) != 0)
         fail("a guided tree was not rebuilt");
     memset(standard, 0, sizeof standard);
@@ -239,7 +235,7 @@ static double growth(int shape)
     for (int r = 0; r < ROUNDS; r++) {
         double t0 = now();
         for (int k = 0; k < 160; k++)
-            sink += bench_rebuild(32, small, 32 * 32, standard, 2 * 30);
+            sink += quartree_rebuild(32, small, 32 * 32, standard, 2 * 30);
         double t1 = now();
         for (int k = 0; k < 10; k++)
             ours_rebuild();
@@ -262,15 +258,15 @@ int main(void)
     for (size_t c = 0; c < sizeof counts / sizeof *counts; c++) {
         n = counts[c];
         random_listing((uint32_t)n);
-        if (bench_table(n, listing, 2 * (n - 2), cells, n * n) != 0)
+        if (quartree_table(n, listing, 2 * (n - 2), cells, n * n) != 0)
             fail("a listing was refused");
         double direct = direct_ratio();
         printf("| %zu | %.2f | %.2f | %.2f | %.0f |\n", n, ratio(ours_standardise, their_standardise, 400),
                ratio(ours_table, their_table, 40), ratio(ours_gap, their_gap, 40), direct);
         fflush(stdout);
     }
-    printf("\nThe rebuilds: ours over plain C of the same algorithm; neighbour joining over ours; the guided rebuild over\n");
-    printf("ours; the slowest table with one cell changed over the table itself:\n\n");
+    printf("\nThe rebuilds: ours over plain C of the same algorithm; neighbour joining over ours;\n");
+    printf("the guided rebuild over ours; the slowest table with one cell changed over the table itself:\n\n");
     printf("| tree | n | rebuild | neighbour joining / rebuild | guided / rebuild | damaged / accepted |\n");
     printf("|---|---|---|---|---|---|\n");
     for (int shape = 0; shape < 3; shape++)
@@ -278,8 +274,9 @@ int main(void)
             n = counts[c];
             make(shape);
             table_of_listing();
-            printf("| %s | %zu | %.2f | %.1f | %.2f | %.2f |\n", shapes[shape], n, ratio(ours_rebuild, their_rebuild, 40),
-                   ratio(joining, ours_rebuild, 4), ratio(ours_guided, ours_rebuild, 40), damaged_ratio());
+            printf("| %s | %zu | %.2f | %.1f | %.2f | %.2f |\n", shapes[shape], n,
+                   ratio(ours_rebuild, their_rebuild, 40), ratio(joining, ours_rebuild, 4),
+                   ratio(ours_guided, ours_rebuild, 40), damaged_ratio());
             fflush(stdout);
         }
     printf("\nOur rebuild at 128 leaves over that at 32, where n * n gives 16:");

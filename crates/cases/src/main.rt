@@ -150,6 +150,97 @@ fn leaf_count(n: usize) {
     say(reconstruct::rebuild(n, &cells, &mut rebuilt));
 }
 
+// A poll of n leaves that has this one record.
+fn poll_of_one(n: usize, r: polls::Record, out: &mut [u32]) -> Outcome {
+    let records = [r];
+    polls::poll(n, &records, out)
+}
+
+// What is answered to the poll of four leaves in which 0 is paired with 2, for this leaf count.
+fn poll_leaf_count(n: usize, out: &mut [u32]) {
+    let r = polls::Record {
+        a: 0,
+        b: 1,
+        c: 2,
+        d: 3,
+        code: 1,
+    };
+    say(poll_of_one(n, r, out));
+}
+
+// One row of a table of four leaves.
+fn say_row(a: u32, b: u32, c: u32, d: u32) {
+    io::print_decimal(1, a as u64);
+    io::write_all(1, b" ");
+    io::print_decimal(1, b as u64);
+    io::write_all(1, b" ");
+    io::print_decimal(1, c as u64);
+    io::write_all(1, b" ");
+    io::print_decimal(1, d as u64);
+    io::write_all(1, b"\n");
+}
+
+// Polls of 3, 33 and 4 leaves, and the sums of the last.
+fn polls_of_one() {
+    let mut sums = [0u32; 16];
+    io::write_all(1, b"poll, 3 leaves: ");
+    poll_leaf_count(3, &mut sums);
+    io::write_all(1, b"poll, 33 leaves: ");
+    poll_leaf_count(33, &mut sums);
+    io::write_all(1, b"poll, 4 leaves, 0 with 2: ");
+    poll_leaf_count(4, &mut sums);
+    say_row(sums[0], sums[1], sums[2], sums[3]);
+    say_row(sums[4], sums[5], sums[6], sums[7]);
+    say_row(sums[8], sums[9], sums[10], sums[11]);
+    say_row(sums[12], sums[13], sums[14], sums[15]);
+}
+
+// What was answered of a sheet, with the leaf where a name is bad.
+fn say_of_names(answer: Outcome) {
+    let Outcome::Refused(cause) = answer else {
+        io::write_all(1, b"accepted\n");
+        return;
+    };
+    io::write_all(1, b"refused ");
+    io::print_decimal(1, refusals::number(cause) as u64);
+    if let Refusal::Name(leaf) = cause {
+        io::write_all(1, b" with ");
+        io::print_decimal(1, leaf as u64);
+    }
+    io::write_all(1, b"\n");
+}
+
+// Sheets of three strains, the second with a name of 40 and of 41 bytes. All cells are 0.
+fn name_lengths() {
+    let forty =
+        b"\x01a\x28bbbbbbbbbbbbbbbbbbbbbbbbbbbbbbbbbbbbbbbb\x01c\0\0\0\0\0\0\x03\0\x2D\0\0\0QT";
+    let one_more =
+        b"\x01a\x29bbbbbbbbbbbbbbbbbbbbbbbbbbbbbbbbbbbbbbbbb\x01c\0\0\0\0\0\0\x03\0\x2E\0\0\0QT";
+    io::write_all(1, b"a name of 40 bytes: ");
+    say_of_names(sheets::check_sheet(forty));
+    io::write_all(1, b"a name of 41 bytes: ");
+    say_of_names(sheets::check_sheet(one_more));
+}
+
+// The table of the scope's sheet of five strains.
+fn sheet_of_five() {
+    let sheet =
+        b"\x01a\x01b\x01c\x01d\x01e\x03\0\x01\0\0\0\0\0\x01\0\0\0\0\0\x01\0\x01\0\x03\0\x05\0\x0A\0\0\0QT";
+    let mut cells = [9u32; 25];
+    io::write_all(1, b"table of the sheet of five strains: ");
+    say(sheets::sheet_table(sheet, &mut cells));
+    io::write_all(1, b"its leaf count: ");
+    io::print_decimal(1, sheets::leaf_count_of(sheet) as u64);
+    io::write_all(1, b"\n3 at (0,1): ");
+    say_whether(cells[1] == 3);
+    io::write_all(1, b"3 at (1,0): ");
+    say_whether(cells[5] == 3);
+    io::write_all(1, b"1 at (2,4): ");
+    say_whether(cells[14] == 1);
+    io::write_all(1, b"0 at (4,4): ");
+    say_whether(cells[24] == 0);
+}
+
 fn main() {
     gap_of_zeros();
     rebuild_five();
@@ -168,4 +259,7 @@ fn main() {
     leaf_count(129);
     io::write_all(1, b"check, table and rebuild, 128 leaves:\n");
     leaf_count(128);
+    polls_of_one();
+    sheet_of_five();
+    name_lengths();
 }

@@ -8,7 +8,7 @@ use lib.ListN.{length, getD, take}
 use Rattle.base.specs.Lists.{tab, any, find}
 use Rattle.refusals.specs.declared.Refusal.{Refusal}
 use Rattle.refusals.specs.declared.Refusal.the-variants.{Question}
-use Rattle.refusals.specs.Refusals.{Answer, accepted, refused, judged, answered}
+use Rattle.refusals.specs.Refusals.{Answer, judged, answered}
 use Rattle.trees.specs.Listings.{broken, tree-of, standard}
 use Rattle.trees.specs.Splits.{set-bytes, split-bytes}
 use Rattle.trees.specs.Quartets.{pairing}

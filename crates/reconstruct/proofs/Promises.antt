@@ -95,9 +95,10 @@ module _ (n : ℕ) (t : List ℕ) (room : ℕ) where
 
 -- The guided rebuild, in a call that passes the checks placed before 12.
 module _ (n : ℕ) (t p : List ℕ) (room : ℕ) (passes : judged-guided n t p room ≡ none) where
-  sizes : (length p ≡ 2 * (n - 1)) × (judged-table n t (2 * (n - 2)) room ≡ none)
+  -- the sizes are right, and nothing of the table is refused
+  pub guided-sizes : (length p ≡ 2 * (n - 1)) × (judged-table n t (2 * (n - 2)) room ≡ none)
   unfolding judged-guided
-  sizes =
+  guided-sizes =
       let a = judged-none (bad-count n) _ passes in
       let b = judged-none (bad-length (2 * (n - 1)) (length p)) _ (a .1) in
       (length-right _ _ (b .0), (judged-none (judged-table n t (2 * (n - 2)) room) _ (b .1)) .0)
@@ -110,11 +111,11 @@ module _ (n : ℕ) (t p : List ℕ) (room : ℕ) (passes : judged-guided n t p r
   pub guided-as-rebuild :
       each-eligible n 1 t (proposals p) ≡ true → guided-answer n t p room ≡ rebuild-answer n t room
   guided-as-rebuild each =
-      let a = accepted-table n t (2 * (n - 2)) room (sizes .1) in
-      let many = many-proposals n p (sizes .0) in
+      let a = accepted-table n t (2 * (n - 2)) room (guided-sizes .1) in
+      let many = many-proposals n p (guided-sizes .0) in
       guided-is
       ∙ guided-own n (a .count) 1 (omega arith) t (a .is-table) (proposals p) many each
-      ∙ sym (answer n t room (sizes .1))
+      ∙ sym (answer n t room (guided-sizes .1))
 
   -- otherwise it is refused with the place of its first step that does not
   pub guided-refused-at :

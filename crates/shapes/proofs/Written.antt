@@ -1,13 +1,13 @@
 -- The bytes that a pass over the rows writes: each node adds its set after those before it, and what lies beyond stays.
-use mathlib.Core.Path.{_≡_, refl, sym, _∙_}
-use mathlib.Core.List.{List, [], _∷_, _++_, flatMap, append-nil, append-assoc}
+use mathlib.Core.Path.{_≡_, refl, _∙_}
+use mathlib.Core.List.{List, [], _++_, flatMap}
 use Prim.Native.Nat.{ℕ, _+_, _-_, _*_}
 use native.Mathlib.Numerals.{add-one}
 use native.Mathlib.Omega.{arith}
 use lib.ListN.{length, take, drop}
 use lib.Seq.{take-at, drop-append-add, drop-drop}
 use Rattle.base.specs.Lists.{tab}
-use Rattle.base.proofs.Lists.{length-tab, length-flat}
+use Rattle.base.proofs.Lists.{length-tab, length-flat, flat-more}
 use Rattle.trees.specs.Trees.{Tree, LeafSet, leaves}
 use Rattle.trees.specs.Listings.{under, standard}
 use Rattle.trees.specs.Splits.{splits, set-bytes, byte-of, bytes-of, split-bytes}
@@ -17,12 +17,6 @@ use Rattle.shapes.specs.Splits.{set-under, node-sets}
 pub standard-sets : (n : ℕ) (T : Tree) → node-sets n (standard n T) (n - 3) ≡ split-bytes n T
 unfolding node-sets split-bytes splits
 standard-sets n T = refl
-
--- parts one after the other, and one more
-flat-more : {A B : Type 0} (f : A → List B) (l : List A) (x : A) → flatMap f (l ++ (x ∷ [])) ≡ flatMap f l ++ f x
-unfolding flatMap
-flat-more f [] x = append-nil (f x)
-flat-more f (y ∷ l) x = rw (flat-more f l x) (sym (append-assoc (f y) (flatMap f l) (f x)))
 
 module _ (n : ℕ) (l : List ℕ) where
   sets-more : (k : ℕ) → node-sets n l (k + 1) ≡ node-sets n l k ++ set-under (under n l (n + k))

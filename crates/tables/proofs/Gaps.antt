@@ -1,23 +1,16 @@
 -- The gaps between a table and a tree, where the table of the tree stands at the front of a buffer.
-use mathlib.Core.Path.{_≡_, refl, ap, _∙_}
+use mathlib.Core.Path.{_≡_, ap, _∙_}
 use mathlib.Core.List.{List, _++_}
-use Prim.Native.Nat.{ℕ, zero, suc, _*_, _/_, _%_, _<_}
-use native.Mathlib.Omega.{arith}
+use Prim.Native.Nat.{ℕ, _*_, _/_, _%_, _<_}
 use lib.IntN.{pos, _-ℤ_}
 use lib.ListN.{getD, List·getD-append}
 use Rattle.base.specs.Lists.{tab}
-use Rattle.base.proofs.Lists.{length-tab, getD-tab}
+use Rattle.base.proofs.Lists.{length-tab, getD-tab, tab-same}
 use Rattle.trees.specs.Trees.{Tree}
 use Rattle.trees.specs.Quartets.{quartets}
 use Rattle.trees.specs.Tables.{table-of}
 use Rattle.tables.specs.Operations.{gaps}
 use Rattle.tables.specs.Fills.{gap-at}
-
-tab-same :
-    {A : Type 0} (n : ℕ) (f g : ℕ → A) → ((k : ℕ) → k < n → f k ≡ g k) → tab n f ≡ tab n g
-unfolding tab
-tab-same zero f g h = refl
-tab-same (suc n) f g h = rw (tab-same n f g (λ k l. h k (omega arith)), h n (omega arith))
 
 pub gaps-made :
     (n : ℕ) (t u : List ℕ) (T : Tree) (rest : List ℕ) → u ≡ table-of n T ++ rest

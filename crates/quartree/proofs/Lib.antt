@@ -1,0 +1,4 @@
+pub mod Figures
+pub mod Questions
+pub mod SheetFigures
+pub mod PollFigures

@@ -1,0 +1,26 @@
+-- `quartree::quartree_rebuild_sheet` meets its contract: it says the number of the operation's answer, and the buffer
+-- is that one's.
+use mathlib.Core.Path.{ap, _∙_}
+use borrow.Author.Needs.{needs}
+use Rattle.strains.specs.Operations.{outcome-number}
+use Rattle.quartree.proofs.Figures.{said-alone}
+use Rattle.quartree.proofs.quartree_rebuild_sheet.Statement.{statement}
+use Rattle.quartree.proofs.quartree_rebuild_sheet.Tie as tie
+
+listing-bytes-of-requires : tie.Need-listing-bytes-of-requires
+listing-bytes-of-requires c κs = search needs
+
+answer-number-requires : tie.Need-answer-number-requires
+answer-number-requires c κs = search needs
+
+same-length : tie.Need-same-length
+same-length c = search needs
+
+returns : tie.Need-returns
+returns c =
+    let done = c .before .before .before .listing-bytes-of .ensures in
+    (c .answer-number .ensures ∙ ap outcome-number (done .0) ∙ said-alone _, done .1)
+
+pub quartree-rebuild-sheet-spec : {M : Type 1} → statement M
+quartree-rebuild-sheet-spec =
+    tie.close (tie.spec listing-bytes-of-requires answer-number-requires same-length returns)

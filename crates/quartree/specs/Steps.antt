@@ -1,0 +1,38 @@
+-- How a reply is made of an answer that code gives. No entry's contract cites it.
+use mathlib.Core.List.{List, [], _∷_}
+use Prim.Native.Nat.{ℕ, _*_, _<_}
+use Rattle.refusals.specs.declared.Outcome.{Outcome}
+use Rattle.refusals.specs.declared.Outcome.the-variants.{Done, Refused}
+use Rattle.refusals.specs.Refusals.{figures-of}
+use Rattle.shapes.specs.declared.Paired.{Paired}
+use Rattle.shapes.specs.declared.Paired.the-variants.{As, Refused as NotPaired}
+use Rattle.quartree.specs.Replies.{refusal-reply}
+
+-- every figure fits 16 bits
+abbrev pub AllSmall : List ℕ → Type 0
+AllSmall [] = Unit {0}
+AllSmall (x ∷ l) = (x < 65536) × AllSmall l
+
+-- so do those of this answer
+abbrev pub SmallFigures : Outcome → Type 0
+SmallFigures Done = Unit {0}
+SmallFigures (Refused r) = AllSmall (figures-of r)
+
+-- the reply of this answer
+abbrev pub outcome-reply : Outcome → ℕ
+outcome-reply Done = 0
+outcome-reply (Refused r) = refusal-reply r
+
+-- a question's answer, and its reply
+abbrev pub SmallPaired : Paired → Type 0
+SmallPaired (As x) = Unit {0}
+SmallPaired (NotPaired r) = AllSmall (figures-of r)
+
+abbrev pub paired-reply : Paired → ℕ
+paired-reply (As x) = 256 * x
+paired-reply (NotPaired r) = refusal-reply r
+
+-- the same with a number for a result
+abbrev pub outcome-reply-with : ℕ → Outcome → ℕ
+outcome-reply-with n Done = 256 * n
+outcome-reply-with n (Refused r) = refusal-reply r

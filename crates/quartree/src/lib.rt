@@ -1,0 +1,227 @@
+// The C interface (include/quartree.h): one thin entry for each public operation.
+use refusals::Outcome;
+use refusals::Refusal;
+use shapes::Paired;
+ghost use mathlib.Core.Path.{_≡_};
+ghost use Prim.Native.Nat.{_+_, _*_, _<_};
+ghost use lib.ListN.{length};
+ghost use Rattle.refusals.specs.Refusals.{figures-of, written};
+ghost use Rattle.listings.specs.Operations.{checked, standardised, split-listing};
+ghost use Rattle.tables.specs.Operations.{tabled, gapped};
+ghost use Rattle.reconstruct.specs.Operations.{rebuild-answer, guided-answer};
+ghost use Rattle.sheets.specs.Sheets.{leaves-of, offset-of, start, name};
+ghost use Rattle.sheets.specs.Operations.{tabled-sheet, name-asked};
+ghost use Rattle.strains.specs.Operations.{sheet-listing-bytes};
+ghost use Rattle.polls.specs.Operations.{polled};
+ghost use Rattle.quartree.specs.Replies.{figure, refusal-reply, reply, number-reply, reply-with};
+ghost use Rattle.quartree.specs.Replies.{number-alone};
+ghost use Rattle.quartree.specs.Entries.{question-asked};
+ghost use Rattle.quartree.specs.Steps.{AllSmall, SmallFigures, outcome-reply, outcome-reply-with, SmallPaired};
+ghost use Rattle.quartree.specs.Steps.{paired-reply};
+
+// The figures of a refusal as one number.
+fn figure_of(r: Refusal) -> usize
+    requires { ⌜ AllSmall (figures-of r) ⌝ }
+    ensures { λ x. ⌜ x ≡ figure (figures-of r) ⌝ }
+{
+    match r {
+        Refusal::LeafCount => 0,
+        Refusal::InputLength => 0,
+        Refusal::OutputRoom => 0,
+        Refusal::Diagonal(i) => i,
+        Refusal::Halves(i, j) => 256 * i + j,
+        Refusal::NoTree => 0,
+        Refusal::Child(p) => p,
+        Refusal::NamedBefore(p) => p,
+        Refusal::Question(p) => p,
+        Refusal::Record(k) => k,
+        Refusal::PairingCode(k) => k,
+        Refusal::Proposal(k) => k,
+        Refusal::SheetEnds => 0,
+        Refusal::SheetLength => 0,
+        Refusal::Name(i) => i,
+        Refusal::SameName(i) => i,
+    }
+}
+
+// The reply of a refused call.
+fn refusal_reply(r: Refusal) -> u64
+    requires { ⌜ AllSmall (figures-of r) ⌝ }
+    ensures { λ x. ⌜ x ≡ refusal-reply r ⌝ }
+{
+    refusals::number(r) as u64 + 256 * (figure_of(r) as u64)
+}
+
+// The reply of a call whose result, if it has one, stands in a buffer.
+fn reply_of(answer: Outcome) -> u64
+    requires { ⌜ SmallFigures answer ⌝ }
+    ensures { λ x. ⌜ x ≡ outcome-reply answer ⌝ }
+{
+    let Outcome::Refused(r) = answer else {
+        return 0;
+    };
+    refusal_reply(r)
+}
+
+// The reply of a question.
+fn paired_reply(answer: Paired) -> u64
+    requires { ⌜ SmallPaired answer ⌝ }
+    ensures { λ x. ⌜ x ≡ paired-reply answer ⌝ }
+{
+    match answer {
+        Paired::As(code) => 256 * (code as u64),
+        Paired::Refused(r) => refusal_reply(r),
+    }
+}
+
+// The reply of a call that, where it is accepted, has this number for a result.
+fn reply_with(x: usize, answer: Outcome) -> u64
+    requires { ⌜ (x < 4294967296) × SmallFigures answer ⌝ }
+    ensures { λ r. ⌜ r ≡ outcome-reply-with x answer ⌝ }
+{
+    let Outcome::Done = answer else {
+        return reply_of(answer);
+    };
+    256 * (x as u64)
+}
+
+// Whether a listing keeps the rules: 1, 2, 7, 8.
+#[no_mangle]
+pub extern "C" fn quartree_check(n: usize, listing: &[u16]) -> u64
+    ensures { λ r. ⌜ r ≡ reply (checked n (now (listing .entry))) ⌝ }
+{
+    reply_of(listings::check(n, listing))
+}
+
+// The standard listing of the tree that a listing stands for: 1, 2, 3, 7, 8.
+#[no_mangle]
+pub extern "C" fn quartree_standardise(n: usize, listing: &[u16], out: &mut [u16]) -> u64
+    ensures answer { λ r. ⌜ r ≡ reply (standardised n (now (listing .entry)) (length (now (out .entry)))) ⌝ }
+    ensures buffer { λ r. ⌜ now (out .exit)
+        ≡ written (standardised n (now (listing .entry)) (length (now (out .entry)))) (now (out .entry)) ⌝ }
+{
+    reply_of(listings::standardise(n, listing, out))
+}
+
+// The splits of the tree that a listing stands for, sixteen bytes each: 1, 2, 3, 7, 8.
+#[no_mangle]
+pub extern "C" fn quartree_splits(n: usize, listing: &[u16], out: &mut [u8]) -> u64
+    ensures answer { λ r. ⌜ r ≡ reply (split-listing n (now (listing .entry)) (length (now (out .entry)))) ⌝ }
+    ensures buffer { λ r. ⌜ now (out .exit)
+        ≡ written (split-listing n (now (listing .entry)) (length (now (out .entry)))) (now (out .entry)) ⌝ }
+{
+    reply_of(shapes::splits(n, listing, out))
+}
+
+// How the tree that a listing stands for pairs four leaves: 1, 2, 7, 8, 9.
+#[no_mangle]
+pub extern "C" fn quartree_pairing(n: usize, listing: &[u16], question: &[u16]) -> u64
+    ensures { λ r. ⌜ r ≡ number-reply (question-asked n (now (listing .entry)) (now (question .entry))) ⌝ }
+{
+    if !listings::leaf_count(n) {
+        return 1;
+    }
+    if question.len() != 4 {
+        return 2;
+    }
+    let asked = [question[0], question[1], question[2], question[3]];
+    paired_reply(shapes::pairing(n, listing, asked))
+}
+
+// The table of the tree that a listing stands for: 1, 2, 3, 7, 8.
+#[no_mangle]
+pub extern "C" fn quartree_table(n: usize, listing: &[u16], out: &mut [u32]) -> u64
+    ensures answer { λ r. ⌜ r ≡ reply (tabled n (now (listing .entry)) (length (now (out .entry)))) ⌝ }
+    ensures buffer { λ r. ⌜ now (out .exit)
+        ≡ written (tabled n (now (listing .entry)) (length (now (out .entry)))) (now (out .entry)) ⌝ }
+{
+    reply_of(tables::table(n, listing, out))
+}
+
+// The gap between a table and the tree that a listing stands for: 1, 2, 3, 7, 8, 4, 5.
+#[no_mangle]
+pub extern "C" fn quartree_gap(n: usize, cells: &[u32], listing: &[u16], out: &mut [i64]) -> u64
+    ensures answer { λ r. ⌜ r
+        ≡ reply (gapped n (now (cells .entry)) (now (listing .entry)) (length (now (out .entry)))) ⌝ }
+    ensures buffer { λ r. ⌜ now (out .exit)
+        ≡ written (gapped n (now (cells .entry)) (now (listing .entry)) (length (now (out .entry))))
+        (now (out .entry)) ⌝ }
+{
+    reply_of(tables::gap(n, cells, listing, out))
+}
+
+// Our own rebuild: 1, 2, 3, 4, 5, 6.
+#[no_mangle]
+pub extern "C" fn quartree_rebuild(n: usize, cells: &[u32], out: &mut [u16]) -> u64
+    ensures answer { λ r. ⌜ r ≡ reply (rebuild-answer n (now (cells .entry)) (length (now (out .entry)))) ⌝ }
+    ensures buffer { λ r. ⌜ now (out .exit)
+        ≡ written (rebuild-answer n (now (cells .entry)) (length (now (out .entry)))) (now (out .entry)) ⌝ }
+{
+    reply_of(reconstruct::rebuild(n, cells, out))
+}
+
+// The guided rebuild: 1, 2, 3, 4, 5, 12.
+#[no_mangle]
+pub extern "C" fn quartree_rebuild_guided(
+    n: usize,
+    cells: &[u32],
+    merges: &[u16],
+    out: &mut [u16],
+) -> u64
+    ensures answer { λ r. ⌜ r
+        ≡ reply (guided-answer n (now (cells .entry)) (now (merges .entry)) (length (now (out .entry)))) ⌝ }
+    ensures buffer { λ r. ⌜ now (out .exit)
+        ≡ written (guided-answer n (now (cells .entry)) (now (merges .entry)) (length (now (out .entry))))
+        (now (out .entry)) ⌝ }
+{
+    reply_of(reconstruct::rebuild_guided(n, cells, merges, out))
+}
+
+// The table of a sheet, and its leaf count as the figure: 13, 1, 14, 3, 15, 16.
+#[no_mangle]
+pub extern "C" fn quartree_sheet_table(sheet: &[u8], out: &mut [u32]) -> u64
+    ensures answer { λ r. ⌜ r ≡ reply-with (leaves-of (now (sheet .entry)))
+        (tabled-sheet (now (sheet .entry)) (length (now (out .entry)))) ⌝ }
+    ensures buffer { λ r. ⌜ now (out .exit)
+        ≡ written (tabled-sheet (now (sheet .entry)) (length (now (out .entry)))) (now (out .entry)) ⌝ }
+{
+    reply_with(
+        sheets::leaf_count_of(sheet),
+        sheets::sheet_table(sheet, out),
+    )
+}
+
+// The name of a leaf: as the figure 256 times the place of its first byte in the sheet, and its length: 13, 1, 14, 15,
+// 16, and 9 with 0 for a leaf >= n.
+#[no_mangle]
+pub extern "C" fn quartree_sheet_name(sheet: &[u8], leaf: usize) -> u64
+    ensures { λ r. ⌜ r
+        ≡ reply-with (256 * (start (now (sheet .entry)) leaf + 1) + length (name (now (sheet .entry)) leaf))
+        (name-asked (now (sheet .entry)) (leaves-of (now (sheet .entry))) (offset-of (now (sheet .entry))) leaf) ⌝ }
+{
+    let place = sheets::name_place(sheet, leaf);
+    let outcome = place.outcome;
+    reply_with(256 * place.first + place.many, outcome)
+}
+
+// A poll added up: 1, 2, 3, 10, 11.
+#[no_mangle]
+pub extern "C" fn quartree_poll(n: usize, records: &[polls::Record], out: &mut [u32]) -> u64
+    ensures answer { λ r. ⌜ r ≡ reply (polled n (now (records .entry)) (length (now (out .entry)))) ⌝ }
+    ensures buffer { λ r. ⌜ now (out .exit)
+        ≡ written (polled n (now (records .entry)) (length (now (out .entry)))) (now (out .entry)) ⌝ }
+{
+    reply_of(polls::poll(n, records, out))
+}
+
+// The tree of a strain sheet: sheet bytes in, listing bytes out (4(n - 2) of them, low byte first), and 0 or the
+// refusal's number: 13, 1, 14, 3, 15, 16, 6.
+#[no_mangle]
+pub extern "C" fn quartree_rebuild_sheet(sheet: &[u8], listing: &mut [u8]) -> u32
+    ensures answer { λ r. ⌜ r
+        ≡ number-alone (sheet-listing-bytes (now (sheet .entry)) (length (now (listing .entry)))) ⌝ }
+    ensures buffer { λ r. ⌜ now (listing .exit)
+        ≡ written (sheet-listing-bytes (now (sheet .entry)) (length (now (listing .entry)))) (now (listing .entry)) ⌝ }
+{
+    strains::answer_number(strains::listing_bytes_of(sheet, listing))
+}

@@ -1,0 +1,53 @@
+// Reads a strain sheet from standard input and prints its tree: the leaf count, one line a row (node, first child,
+// second child), and `end`; or, if the answer holds no tree, `refused` and the number.
+use refusals::Outcome;
+ghost use Prim.Native.Nat.{_≤_};
+ghost use Rattle.pairs.specs.Limits.{most-leaves};
+
+// One byte more than the longest sheet has, so that a longer input is refused and not cut.
+const INPUT: usize = 21513;
+
+// The numbers of the longest listing.
+const LISTING: usize = 252;
+
+fn print_number(number: usize) {
+    io::print_decimal(1, number as u64);
+}
+
+fn print_child(child: u16) {
+    io::write_all(1, b" ");
+    io::print_decimal(1, child as u64);
+}
+
+// The rows of a listing of n leaves.
+fn print_rows(n: usize, listing: &[u16; LISTING])
+    requires { ⌜ n ≤ most-leaves ⌝ }
+{
+    let mut k: usize = 0;
+    while k + 2 < n {
+        print_number(n + k);
+        print_child(listing[2 * k]);
+        print_child(listing[2 * k + 1]);
+        io::write_all(1, b"\n");
+        k += 1;
+    }
+}
+
+fn main() {
+    let mut input = [0u8; INPUT];
+    let got = io::read_full(0, &mut input);
+    let mut listing = [0u16; LISTING];
+    let answer = strains::listing_of(&input[..got], &mut listing);
+    let Outcome::Done = answer else {
+        io::write_all(1, b"refused ");
+        io::print_decimal(1, strains::answer_number(answer) as u64);
+        io::write_all(1, b"\n");
+        return;
+    };
+    let n = sheets::leaf_count_of(&input[..got]);
+    io::write_all(1, b"leaves ");
+    print_number(n);
+    io::write_all(1, b"\n");
+    print_rows(n, &listing);
+    io::write_all(1, b"end\n");
+}

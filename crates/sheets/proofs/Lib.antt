@@ -1,0 +1,13 @@
+pub mod Examples
+pub mod Parts
+pub mod Bytes
+pub mod NameBytes
+pub mod Names
+pub mod Judging
+pub mod Sizes
+pub mod Judged
+pub mod Cells
+pub mod Tabled
+pub mod Accepted
+pub mod Written
+pub mod Asked

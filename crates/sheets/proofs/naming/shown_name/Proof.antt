@@ -1,0 +1,83 @@
+-- `sheets::naming::shown_name` meets its contract: the name stands between its length byte and the next name.
+use mathlib.Core.Path.{_≡_, refl, _∙_}
+use Prim.Native.Nat.{_+_, _-_, _≤_}
+use native.Mathlib.Omega.{arith}
+use borrow.Author.Needs.{needs}
+use lib.ListN.{length, getD}
+use Rattle.sheets.specs.Sheets.{name-at, start}
+use Rattle.sheets.proofs.Names.{start-next, start-name}
+use Rattle.sheets.proofs.Asked.{shown-none, shown-whole}
+use Rattle.sheets.proofs.naming.shown_name.Statement.{statement}
+use Rattle.sheets.proofs.naming.shown_name.Tie as tie
+
+enum-told : tie.Need-enum-told
+enum-told c = search needs
+
+enum-told-2 : tie.Need-enum-told-2
+enum-told-2 c = search needs
+
+sub-result : tie.Need-sub-result
+sub-result c = search needs
+
+part-result-start : tie.Need-part-result-start
+part-result-start c = search needs
+
+part-result-end : tie.Need-part-result-end
+part-result-end c = search needs
+
+returns : tie.Need-returns
+returns c = shown-none _ (c .before .enum-told2 .given .1)
+
+-- the name that is asked for ends within the sheet
+ends :
+    (c : tie.After-enum-told)
+    → (let a = c .before .before .before .args in start (a .sheet .now) (a .leaf + 1) ≤ length (a .sheet .now))
+ends c = c .before .before .before .pre (c .enum-told .given .1)
+
+start-of-requires : tie.Need-start-of-requires
+start-of-requires c κs =
+    let a = c .before .before .before .args in
+    omega (arith, ends c, start-next (a .sheet .now) (a .leaf) refl)
+
+add-from : tie.Need-add-from
+add-from c = omega (arith, ends (c .before), start-next _ _ (c .start-of .ensures))
+
+next-name-requires : tie.Need-next-name-requires
+next-name-requires c κs = omega (arith, ends (c .before), start-next _ _ (c .start-of .ensures))
+
+sub-result-2 : tie.Need-sub-result-2
+sub-result-2 c = search needs
+
+part-result-start-2 : tie.Need-part-result-start-2
+part-result-start-2 c = search needs
+
+part-result-end-2 : tie.Need-part-result-end-2
+part-result-end-2 c =
+    omega (arith, ends (c .before .before), c .next-name .ensures ∙ start-next _ _ (c .before .start-of .ensures))
+
+returns-2 : tie.Need-returns-2
+unfolding name-at
+returns-2 c =
+    let a = c .before .before .before .before .before .before .args in
+    let S = a .sheet .now in
+    let p = c .before .before .start-of in
+    let many : c .before .next-name .result - (p .result + 1) ≡ getD S (p .result) 0 = omega arith in
+    shown-whole _ _ (c .before .before .before .enum-told .given .1) (rw many (start-name S (a .leaf) (p .ensures)))
+
+pub shown-name-spec : {M : Type 1} → statement M
+shown-name-spec =
+    tie.close
+    (tie.spec
+    enum-told
+    enum-told-2
+    sub-result
+    part-result-start
+    part-result-end
+    returns
+    start-of-requires
+    add-from
+    next-name-requires
+    sub-result-2
+    part-result-start-2
+    part-result-end-2
+    returns-2)

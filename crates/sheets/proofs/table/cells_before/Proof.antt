@@ -1,0 +1,47 @@
+-- `sheets::table::cells_before` meets its contract: the rows before row i hold i n − i (i + 1) / 2 cells.
+use mathlib.Core.Path.{sym}
+use native.Mathlib.Omega.{arith}
+use borrow.Author.Needs.{needs}
+use Rattle.sheets.proofs.Cells.{place-is, row-small, half-below}
+use Rattle.sheets.proofs.table.cells_before.Statement.{statement}
+use Rattle.sheets.proofs.table.cells_before.Tie as tie
+
+mul-result : tie.Need-mul-result
+mul-result c = let a = c .args in omega (arith, row-small (a .n) (a .i) (omega arith) (omega arith))
+
+add-result : tie.Need-add-result
+add-result c = search needs
+
+mul-result-2 : tie.Need-mul-result-2
+mul-result-2 c =
+    let a = c .args in
+    let half = half-below (a .n) (a .i) (omega arith) (omega arith) in
+    omega (arith, half, row-small (a .n) (a .i) (omega arith) (omega arith))
+
+sub-result : tie.Need-sub-result
+sub-result c = let a = c .args in omega (arith, half-below (a .n) (a .i) (omega arith) (omega arith))
+
+sub-result-2 : tie.Need-sub-result-2
+sub-result-2 c = search needs
+
+sub-result-3 : tie.Need-sub-result-3
+sub-result-3 c = search needs
+
+add-result-2 : tie.Need-add-result-2
+add-result-2 c = let a = c .args in omega (arith, row-small (a .n) (a .i) (omega arith) (omega arith))
+
+returns : tie.Need-returns
+returns c = let a = c .args in sym (place-is (a .n) (a .i) (a .j) (omega arith) (omega arith))
+
+pub cells-before-spec : {M : Type 1} → statement M
+cells-before-spec =
+    tie.close
+    (tie.spec
+    mul-result
+    add-result
+    mul-result-2
+    sub-result
+    sub-result-2
+    sub-result-3
+    add-result-2
+    returns)

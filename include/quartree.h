@@ -1,0 +1,290 @@
+/* quartree.h: count tables and strain trees.
+
+   The part turns a table of quartet counts into the one tree that has it, or refuses; and it goes the other way. Trees
+   have no root and no branch lengths. This header is the manual: the words, the sizes, the reply and the causes of
+   refusal, what a caller owes, what every call promises, and then the calls.
+
+   Link with libquartree.a. Of the C library it takes memcpy, memmove, memset and memcmp at most. */
+
+#ifndef QUARTREE_H
+#define QUARTREE_H
+
+#include <stddef.h>
+#include <stdint.h>
+
+#define QUARTREE_VERSION "0.1.0"
+#define QUARTREE_VERSION_MAJOR 0
+#define QUARTREE_VERSION_MINOR 1
+#define QUARTREE_VERSION_PATCH 0
+
+/* ---- Words ----------------------------------------------------------------------------------------------------------
+
+   Tree. Leaves are numbered 0 to n-1, n from 3 to 128. A tree is unrooted and binary: n leaves, and n-2 inner nodes of
+   three edges. It is drawn as hanging from leaf 0.
+
+   Listing. A tree is lent as a listing of n-2 rows. Row k (from 0) names the two children of node n+k, at places 2k
+   and 2k+1. A child is a leaf 1 to n-1 or the node of an earlier row, and each stands once. The last node, 2n-3, is
+   joined to leaf 0. Every listing that keeps these rules stands for one tree.
+
+   Standard listing. Its nodes are in post-order; of two children the one with the smaller least leaf comes first.
+   Every tree has one standard listing, and two trees on the same leaves are the same exactly when their standard
+   listings are equal. Other listings say nothing by their differences: for n = 4, 2 3 4 1 and 2 3 1 4 are one tree.
+
+   Split. The set of leaves under an inner node other than the last. It is sixteen bytes, one bit a leaf: leaf k is
+   bit k mod 8 of byte k div 8, bit 0 the lowest. The bits from n on are 0.
+
+   Quartet. Four different leaves. The tree pairs i,j against p,q when some edge separates i and j from p and q. Four
+   leaves in an order have pairing 0 (first with second), 1 (first with third) or 2 (first with fourth).
+
+   Table. n * n cells, row by row: cell (i,j) is at place n*i + j. Cell (i,j) of a tree's table is the number of
+   unordered pairs p,q of other leaves with i,j paired against p,q. Its diagonal is 0 and its largest cell is at most
+   7,875. A tree has a table when its own table equals it in every cell. Different trees on the same leaves have
+   different tables.
+
+   Merges. P(k) is k(k-1)/2. Merging starts with n subtrees of one leaf; each leaf i has m(i) = 0. Two different
+   subtrees A and B of a and b leaves are eligible when for every i in A and j in B, cell (i,j) is
+   P(n-a-b) + m(i) + m(j). Merging them adds P(b) to m of A's leaves and P(a) to m of B's. After n-1 merges one subtree
+   holds all leaves; the last merge joins two subtrees by an edge and makes no node.
+
+   Poll. One record a quartet: four leaves a < b < c < d and a pairing code. Codes 0, 1 and 2 are the pairings of
+   a, b, c, d; 3 is unresolved. A poll of n leaves, n from 4 to 32, has a record for every quartet, in lexicographic
+   order of the four leaves.
+
+   Sheet. A byte file: names, cells, trailer. A name is a length byte 1 to 40, then that many letters, digits, full
+   stops or hyphens (ASCII); the names are those of leaves 0, 1, 2 and so on, no two equal. The cells are those above
+   the diagonal, row by row, 16 bits each, low byte first. The trailer is the last 8 bytes: the leaf count (16 bits),
+   the offset of the first cell (32 bits), both low byte first, then the bytes 51 54 hexadecimal. Names fill everything
+   before that offset, cells everything from it to the trailer. */
+
+/* ---- Sizes ----------------------------------------------------------------------------------------------------------
+
+   For a leaf count within the limits. An argument may be evaluated more than once. A tree of three leaves has no
+   split, so QUARTREE_SPLIT_BYTES(3) is 0, and an array of that size is not C. */
+
+#define QUARTREE_LEAST_LEAVES 3
+#define QUARTREE_MOST_LEAVES 128
+#define QUARTREE_POLL_LEAST_LEAVES 4
+#define QUARTREE_POLL_MOST_LEAVES 32
+#define QUARTREE_SHEET_MOST_BYTES 21512
+
+#define QUARTREE_LISTING_NUMBERS(n) (2 * ((size_t)(n) - 2)) /* uint16_t of a listing: two a row */
+#define QUARTREE_LISTING_BYTES(n) (4 * ((size_t)(n) - 2))   /* bytes of a listing, for quartree_rebuild_sheet */
+#define QUARTREE_TABLE_CELLS(n) ((size_t)(n) * (size_t)(n)) /* cells of a table, uint32_t or int64_t */
+#define QUARTREE_SPLIT_BYTES(n) (16 * ((size_t)(n) - 3))    /* bytes of a tree's splits: 16 a split */
+#define QUARTREE_MERGES(n) ((size_t)(n) - 1)                /* merges that join n leaves */
+#define QUARTREE_MERGE_NUMBERS(n) (2 * ((size_t)(n) - 1))   /* uint16_t of a list of merges: two a merge */
+#define QUARTREE_POLL_RECORDS(n) /* records of a poll */ \
+    ((size_t)(n) * ((size_t)(n) - 1) * ((size_t)(n) - 2) * ((size_t)(n) - 3) / 24)
+
+/* ---- The reply ------------------------------------------------------------------------------------------------------
+
+   A call replies with a number and a figure: the refusal's number, or 0 if the call is accepted, in bits 0 to 7, and
+   the figure from bit 8 on. A refusal's figure is given below; it is 0 where nothing comes with the number. The figure
+   of an accepted call is 0 unless its promise names another. quartree_rebuild_sheet alone returns a bare number. */
+
+#define QUARTREE_NUMBER(reply) ((unsigned)((reply) & 255))
+#define QUARTREE_FIGURE(reply) ((uint64_t)(reply) >> 8)
+
+/* The figures x and y of a reply whose figure is 256 * x + y: refusal 5, and a name's place. */
+#define QUARTREE_FIGURE_X(reply) (QUARTREE_FIGURE(reply) >> 8)
+#define QUARTREE_FIGURE_Y(reply) (QUARTREE_FIGURE(reply) & 255)
+
+/* The causes of refusal. After the semicolon: the figure. Leaves, positions, records and steps count from 0. */
+enum quartree_refusal {
+    QUARTREE_ACCEPTED = 0,
+    QUARTREE_REFUSED_LEAF_COUNT = 1,    /* leaf count outside 3..128 (polls 4..32) */
+    QUARTREE_REFUSED_INPUT_LENGTH = 2,  /* an input not exactly as long as the leaf count needs */
+    QUARTREE_REFUSED_OUTPUT_ROOM = 3,   /* output shorter than the result */
+    QUARTREE_REFUSED_DIAGONAL = 4,      /* diagonal cell not 0; the first such leaf */
+    QUARTREE_REFUSED_HALVES = 5,        /* cells (i,j) and (j,i) unequal; 256*i + j, the first in row order, i < j */
+    QUARTREE_REFUSED_NO_TREE = 6,       /* no binary tree on these leaves has the table */
+    QUARTREE_REFUSED_CHILD = 7,         /* child neither a leaf 1..n-1 nor an earlier row's node; its position in the
+                                           listing */
+    QUARTREE_REFUSED_NAMED_BEFORE = 8,  /* child named before; its position in the listing */
+    QUARTREE_REFUSED_QUESTION = 9,      /* question names a leaf not below n, or one leaf twice; the first position
+                                           where it does */
+    QUARTREE_REFUSED_RECORD = 10,       /* record's leaves are not those due there; the record */
+    QUARTREE_REFUSED_PAIRING_CODE = 11, /* pairing code above 3; the record */
+    QUARTREE_REFUSED_PROPOSAL = 12,     /* proposal names a leaf not below n, one subtree twice, or an ineligible pair;
+                                           the first such step */
+    QUARTREE_REFUSED_SHEET_ENDS = 13,   /* sheet under 8 or over 21,512 bytes, or not ending 51 54 */
+    QUARTREE_REFUSED_SHEET_LENGTH = 14, /* offset + n(n-1) + 8 is not the sheet's length */
+    QUARTREE_REFUSED_NAME = 15,         /* name with a bad length or byte, or past the offset; its leaf. Or names end
+                                           before the offset; n */
+    QUARTREE_REFUSED_SAME_NAME = 16     /* name equal to an earlier one; the later leaf */
+};
+
+/* A text for each refusal's number, and for 0. */
+static inline const char *quartree_refusal_text(unsigned number)
+{
+    switch (number) {
+    case QUARTREE_ACCEPTED:
+        return "accepted";
+    case QUARTREE_REFUSED_LEAF_COUNT:
+        return "the leaf count is outside 3 to 128 (polls: 4 to 32)";
+    case QUARTREE_REFUSED_INPUT_LENGTH:
+        return "an input is not exactly as long as the leaf count needs";
+    case QUARTREE_REFUSED_OUTPUT_ROOM:
+        return "the output is shorter than the result";
+    case QUARTREE_REFUSED_DIAGONAL:
+        return "a cell on the diagonal is not 0";
+    case QUARTREE_REFUSED_HALVES:
+        return "a cell and its mirror cell are unequal";
+    case QUARTREE_REFUSED_NO_TREE:
+        return "no binary tree has the table";
+    case QUARTREE_REFUSED_CHILD:
+        return "a child is neither a leaf 1 to n-1 nor the node of an earlier row";
+    case QUARTREE_REFUSED_NAMED_BEFORE:
+        return "a child was named before";
+    case QUARTREE_REFUSED_QUESTION:
+        return "the question names a leaf not below n, or one leaf twice";
+    case QUARTREE_REFUSED_RECORD:
+        return "the leaves of a record are not those due there";
+    case QUARTREE_REFUSED_PAIRING_CODE:
+        return "a pairing code is above 3";
+    case QUARTREE_REFUSED_PROPOSAL:
+        return "a proposal names a leaf not below n, one subtree twice, or an ineligible pair";
+    case QUARTREE_REFUSED_SHEET_ENDS:
+        return "the sheet has under 8 or over 21,512 bytes, or does not end with 51 54";
+    case QUARTREE_REFUSED_SHEET_LENGTH:
+        return "the sheet's length is not offset + n(n-1) + 8";
+    case QUARTREE_REFUSED_NAME:
+        return "a name has a bad length or byte or runs past the offset, or the names end before the offset";
+    case QUARTREE_REFUSED_SAME_NAME:
+        return "a name equals an earlier one";
+    default:
+        return "no refusal has this number";
+    }
+}
+
+/* ---- What a caller owes ---------------------------------------------------------------------------------------------
+
+   No call can check these, and none of its promises holds without them.
+
+   - No pointer is null, also where its length is 0.
+   - Lengths are true: from each pointer on there are as many elements as its length says, or more. A length counts
+     elements of its pointer's type; room is the length of out.
+   - Pointers are aligned for their element type.
+   - An output overlaps no input of the same call. Inputs may overlap. An output may hold anything before the call.
+   - While a call runs, nobody else writes its inputs, or reads or writes its output.
+   - The stack has 131,072 bytes left. (The most that was measured is 96,192, in quartree_gap.)
+
+   ---- What every call promises ---------------------------------------------------------------------------------------
+
+   - Refusals are judged in the order that the call names, and the first that applies is the reply. Nothing else is
+     refused. 7 and 8 are judged child by child, 10 and 11 record by record, 15 and 16 name by name; that the names end
+     before the offset comes after all names.
+   - An input's length has to be exact (refusal 2). An output may be longer than the result.
+   - A refused call leaves every buffer as it was. An accepted call writes its result from the output's first element
+     on, and nothing beyond the result. Inputs are never written.
+   - Whatever the numbers in the buffers are, the call ends, does not trap, and touches no memory but what it is lent
+     and its own stack. It allocates nothing and keeps nothing for later calls, so calls may run in several threads at
+     once.
+   - A listing may be lent in any form that keeps the rules. The answer is that of its tree. */
+
+#ifdef __cplusplus
+extern "C" {
+#endif
+
+/* ---- Listings -------------------------------------------------------------------------------------------------------
+
+   The length of a lent listing, len, has to be QUARTREE_LISTING_NUMBERS(n). */
+
+/* Checks a listing.
+   Refused, in this order: 1, 2, 7, 8.
+   Accepted: the listing keeps the rules. There is no output. */
+uint64_t quartree_check(size_t n, const uint16_t *listing, size_t len);
+
+/* Writes the standard listing of a listing's tree.
+   Refused, in this order: 1, 2, 3, 7, 8.
+   Accepted: the first QUARTREE_LISTING_NUMBERS(n) numbers of out are the standard listing. */
+uint64_t quartree_standardise(size_t n, const uint16_t *listing, size_t len, uint16_t *out, size_t room);
+
+/* Lists the splits of a listing's tree.
+   Refused, in this order: 1, 2, 3, 7, 8.
+   Accepted: the first QUARTREE_SPLIT_BYTES(n) bytes of out are the tree's n-3 splits, sixteen bytes each, in the order
+   in which the standard listing has their nodes. */
+uint64_t quartree_splits(size_t n, const uint16_t *listing, size_t len, uint8_t *out, size_t room);
+
+/* Says how a listing's tree pairs four leaves. The length of the question, question_len, has to be 4.
+   Refused, in this order: 1, 2 (either input), 7, 8, 9.
+   Accepted: the figure is 0, 1 or 2, as the tree pairs the question's first leaf with the second, the third or the
+   fourth. There is no output. */
+uint64_t quartree_pairing(size_t n, const uint16_t *listing, size_t len, const uint16_t *question, size_t question_len);
+
+/* ---- Tables ---------------------------------------------------------------------------------------------------------
+
+   The length of a lent table, cells, has to be QUARTREE_TABLE_CELLS(n). A cell may have any value. */
+
+/* Writes the table of a listing's tree.
+   Refused, in this order: 1, 2, 3, 7, 8.
+   Accepted: the first QUARTREE_TABLE_CELLS(n) cells of out are the tree's table, each cell the count of quartets taken
+   from the tree's edges. */
+uint64_t quartree_table(size_t n, const uint16_t *listing, size_t len, uint32_t *out, size_t room);
+
+/* Measures the gap between a table and a listing's tree.
+   Refused, in this order: 1, 2 (either input), 3, 7, 8, 4, 5.
+   Accepted: the first QUARTREE_TABLE_CELLS(n) numbers of out are, cell by cell, the table's cell less the tree's cell:
+   from -7,875 to 4,294,967,295, and 0 on the diagonal. All are 0 exactly when the tree has the table. */
+uint64_t quartree_gap(size_t n, const uint32_t *table, size_t cells, const uint16_t *listing, size_t len,
+                      int64_t *out, size_t room);
+
+/* Rebuilds the tree of a table.
+   Refused, in this order: 1, 2, 3, 4, 5, 6. Where 1 to 5 do not apply, 6 is given exactly when no binary tree on the n
+   leaves has the table. Then every list of eligible merges, taken until no pair is eligible, leaves more than one
+   subtree.
+   Accepted: the first QUARTREE_LISTING_NUMBERS(n) numbers of out are the standard listing of the only tree that has
+   the table. Every list of eligible merges, taken until no pair is eligible, ends in this one tree. */
+uint64_t quartree_rebuild(size_t n, const uint32_t *table, size_t cells, uint16_t *out, size_t room);
+
+/* Rebuilds the tree of a table by proposed merges. The length of the list, len, has to be QUARTREE_MERGE_NUMBERS(n).
+   Step k names two leaves, at places 2k and 2k+1, and proposes to merge the two subtrees that hold them.
+   Refused, in this order: 1, 2 (either input), 3, 4, 5, 12. Where 1 to 5 do not apply, 12 is given exactly when some
+   step names no pair that is eligible at its turn. Where quartree_rebuild says 6, every list is refused by 12.
+   Accepted: the first QUARTREE_LISTING_NUMBERS(n) numbers of out are the standard listing of the only tree that has
+   the table, the same that quartree_rebuild writes. */
+uint64_t quartree_rebuild_guided(size_t n, const uint32_t *table, size_t cells, const uint16_t *merges, size_t len,
+                                 uint16_t *out, size_t room);
+
+/* ---- Polls ------------------------------------------------------------------------------------------------------- */
+
+/* A record of a poll: five bytes. */
+struct quartree_record {
+    uint8_t a, b, c, d; /* the leaves, a < b < c < d */
+    uint8_t code;       /* 0: a,b against c,d; 1: a,c against b,d; 2: a,d against b,c; 3: unresolved */
+};
+
+/* Adds up a poll. n is from 4 to 32, and the number of records, count, has to be QUARTREE_POLL_RECORDS(n).
+   Refused, in this order: 1, 2, 3, 10, 11.
+   Accepted: the first QUARTREE_TABLE_CELLS(n) cells of out are the poll's table. Cell (i,j) is the number of resolved
+   records that pair i with j, and the diagonal is 0. */
+uint64_t quartree_poll(size_t n, const struct quartree_record *records, size_t count, uint32_t *out, size_t room);
+
+/* ---- Sheets ---------------------------------------------------------------------------------------------------------
+
+   The leaf count n is the trailer's. Room for QUARTREE_MOST_LEAVES is enough for every sheet. Once a call has accepted
+   a sheet of len bytes, n is sheet[len - 8] + 256 * sheet[len - 7]. */
+
+/* Reads the table of a sheet.
+   Refused, in this order: 13, 1, 14, 3, 15, 16.
+   Accepted: the figure is n, and the first QUARTREE_TABLE_CELLS(n) cells of out are the sheet's table: its cells above
+   the diagonal, their mirror cells below it, and 0 on it. Such a table is never refused by 4 or 5. */
+uint64_t quartree_sheet_table(const uint8_t *sheet, size_t len, uint32_t *out, size_t room);
+
+/* Finds the name of a leaf in a sheet.
+   Refused, in this order: 13, 1, 14, 15, 16, 9. Refusal 9 is given when leaf is not below n; its figure is 0.
+   Accepted: the figure is 256 * x + y, and the name is the y bytes of the sheet from offset x on. No 0 byte ends it.
+   There is no output. */
+uint64_t quartree_sheet_name(const uint8_t *sheet, size_t len, size_t leaf);
+
+/* Rebuilds the tree of a sheet. The number alone is returned: 0, or the refusal's.
+   Refused, in this order: 13, 1, 14, 3, 15, 16, 6.
+   Accepted: the first QUARTREE_LISTING_BYTES(n) bytes of listing are the standard listing of the only tree that has
+   the sheet's table, two bytes a number, low byte first. */
+uint32_t quartree_rebuild_sheet(const uint8_t *sheet, size_t sheet_len, uint8_t *listing, size_t listing_len);
+
+#ifdef __cplusplus
+}
+#endif
+
+#endif

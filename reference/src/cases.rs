@@ -1,0 +1,338 @@
+//! Cases: one call of one operation each, put to the part and to the reference, and compared.
+//!
+//! Compared are the reply (number and figure) and every byte of every lent buffer and of its guards. Where the paper
+//! fixes a result in two ways, the reference also takes a second look at its own answer.
+
+use crate::chance::Chance;
+use crate::every::Every;
+use crate::part::{self, Cell, Lent};
+use crate::poll::{self, Record};
+use crate::refuse::{reply, Answer, Refusal};
+use crate::tree::{self, Tree};
+use crate::{merge, sheet, table};
+
+/// The operations.
+#[derive(Clone, Copy, Debug, PartialEq, Eq)]
+pub enum Kind {
+    Check,
+    Standardise,
+    Splits,
+    Pairing,
+    Table,
+    Gap,
+    Rebuild,
+    Guided,
+    Poll,
+    SheetTable,
+    SheetName,
+    RebuildSheet,
+}
+
+impl Kind {
+    pub const ALL: [Kind; 12] = [
+        Kind::Check,
+        Kind::Standardise,
+        Kind::Splits,
+        Kind::Pairing,
+        Kind::Table,
+        Kind::Gap,
+        Kind::Rebuild,
+        Kind::Guided,
+        Kind::Poll,
+        Kind::SheetTable,
+        Kind::SheetName,
+        Kind::RebuildSheet,
+    ];
+
+    pub fn name(self) -> &'static str {
+        match self {
+            Kind::Check => "check",
+            Kind::Standardise => "standardise",
+            Kind::Splits => "splits",
+            Kind::Pairing => "pairing",
+            Kind::Table => "table",
+            Kind::Gap => "gap",
+            Kind::Rebuild => "rebuild",
+            Kind::Guided => "rebuild_guided",
+            Kind::Poll => "poll",
+            Kind::SheetTable => "sheet_table",
+            Kind::SheetName => "sheet_name",
+            Kind::RebuildSheet => "rebuild_sheet",
+        }
+    }
+
+    /// The refusals of the operation, in the order in which they are judged.
+    pub fn refusals(self) -> &'static [u64] {
+        match self {
+            Kind::Check => &[1, 2, 7, 8],
+            Kind::Standardise | Kind::Splits | Kind::Table => &[1, 2, 3, 7, 8],
+            Kind::Pairing => &[1, 2, 7, 8, 9],
+            Kind::Gap => &[1, 2, 3, 7, 8, 4, 5],
+            Kind::Rebuild => &[1, 2, 3, 4, 5, 6],
+            Kind::Guided => &[1, 2, 3, 4, 5, 12],
+            Kind::Poll => &[1, 2, 3, 10, 11],
+            Kind::SheetTable => &[13, 1, 14, 3, 15, 16],
+            Kind::SheetName => &[13, 1, 14, 15, 16, 9],
+            Kind::RebuildSheet => &[13, 1, 14, 3, 15, 16, 6],
+        }
+    }
+}
+
+/// A call: its inputs, and the room of its output in cells.
+#[derive(Debug)]
+pub enum Case {
+    Check { n: usize, listing: Vec<u16> },
+    Standardise { n: usize, listing: Vec<u16>, room: usize },
+    Splits { n: usize, listing: Vec<u16>, room: usize },
+    Pairing { n: usize, listing: Vec<u16>, question: Vec<u16> },
+    Table { n: usize, listing: Vec<u16>, room: usize },
+    Gap { n: usize, table: Vec<u32>, listing: Vec<u16>, room: usize },
+    Rebuild { n: usize, table: Vec<u32>, room: usize },
+    Guided { n: usize, table: Vec<u32>, merges: Vec<u16>, room: usize },
+    Poll { n: usize, records: Vec<Record>, room: usize },
+    SheetTable { sheet: Vec<u8>, room: usize },
+    SheetName { sheet: Vec<u8>, leaf: usize },
+    RebuildSheet { sheet: Vec<u8>, room: usize },
+}
+
+/// What part and reference agree on: the reply, and the cells written.
+#[derive(Debug, PartialEq, Eq)]
+pub struct Outcome {
+    pub reply: u64,
+    pub written: Vec<i64>,
+}
+
+/// Replies have to be equal.
+fn same_reply(got: u64, due: u64) -> Result<(), String> {
+    if got == due {
+        return Ok(());
+    }
+    let shown = |reply: u64| format!("{} with {}", reply & 0xFF, reply >> 8);
+    Err(format!("the part replies {}; due is {}", shown(got), shown(due)))
+}
+
+/// Compares the reply of an operation without an output.
+fn settle(got: u64, due: Answer<u64>) -> Result<Outcome, String> {
+    same_reply(got, reply(due))?;
+    Ok(Outcome { reply: got, written: Vec::new() })
+}
+
+/// Compares the reply and the output.
+fn settle_output<T>(got: u64, due: Answer<(u64, Vec<T>)>, out: &Lent<T>) -> Result<Outcome, String>
+where
+    T: Cell + Into<i64>,
+{
+    let (due, written) = match due {
+        Ok((figure, written)) => (reply(Ok(figure)), written),
+        Err(refusal) => (reply(Err(refusal)), Vec::new()),
+    };
+    same_reply(got, due)?;
+    out.holds(&written)?;
+    Ok(Outcome { reply: got, written: written.into_iter().map(T::into).collect() })
+}
+
+/// Compares the number alone, without its figure, and the output.
+fn settle_number(got: u64, due: Answer<Vec<u8>>, out: &Lent<u8>) -> Result<Outcome, String> {
+    let (number, written) = match due {
+        Ok(written) => (0, written),
+        Err(refusal) => (refusal.number(), Vec::new()),
+    };
+    same_reply(got, number)?;
+    out.holds(&written)?;
+    Ok(Outcome { reply: got, written: written.into_iter().map(i64::from).collect() })
+}
+
+/// An accepted call with an output and no number.
+fn no_number<T>(answer: Answer<Vec<T>>) -> Answer<(u64, Vec<T>)> {
+    answer.map(|written| (0, written))
+}
+
+impl Case {
+    pub fn kind(&self) -> Kind {
+        match self {
+            Case::Check { .. } => Kind::Check,
+            Case::Standardise { .. } => Kind::Standardise,
+            Case::Splits { .. } => Kind::Splits,
+            Case::Pairing { .. } => Kind::Pairing,
+            Case::Table { .. } => Kind::Table,
+            Case::Gap { .. } => Kind::Gap,
+            Case::Rebuild { .. } => Kind::Rebuild,
+            Case::Guided { .. } => Kind::Guided,
+            Case::Poll { .. } => Kind::Poll,
+            Case::SheetTable { .. } => Kind::SheetTable,
+            Case::SheetName { .. } => Kind::SheetName,
+            Case::RebuildSheet { .. } => Kind::RebuildSheet,
+        }
+    }
+
+    /// Puts the case to the part and to the reference; an error says what differs.
+    pub fn compare(&self, every: &Every, chance: &mut Chance) -> Result<Outcome, String> {
+        match self {
+            Case::Check { n, listing } => {
+                let due = tree::check(*n, listing).map(|()| 0);
+                let mut listing = Lent::input("listing", listing, chance);
+                let got = part::check(*n, &mut listing);
+                listing.unchanged()?;
+                settle(got, due)
+            }
+            Case::Standardise { n, listing, room } => {
+                let due = tree::standardise(*n, listing, *room);
+                look_at_standard(*n, listing, &due)?;
+                let mut listing = Lent::input("listing", listing, chance);
+                let mut out = Lent::output("standard listing", *room, chance);
+                let got = part::standardise(*n, &mut listing, &mut out);
+                listing.unchanged()?;
+                settle_output(got, no_number(due), &out)
+            }
+            Case::Splits { n, listing, room } => {
+                let due = tree::splits(*n, listing, *room);
+                let mut listing = Lent::input("listing", listing, chance);
+                let mut out = Lent::output("splits", *room, chance);
+                let got = part::splits(*n, &mut listing, &mut out);
+                listing.unchanged()?;
+                settle_output(got, no_number(due), &out)
+            }
+            Case::Pairing { n, listing, question } => {
+                let due = tree::pairing(*n, listing, question).map(u64::from);
+                let mut listing = Lent::input("listing", listing, chance);
+                let mut question = Lent::input("question", question, chance);
+                let got = part::pairing(*n, &mut listing, &mut question);
+                listing.unchanged()?;
+                question.unchanged()?;
+                settle(got, due)
+            }
+            Case::Table { n, listing, room } => {
+                let due = table::table(*n, listing, *room);
+                look_at_table(*n, listing, &due, chance)?;
+                let mut listing = Lent::input("listing", listing, chance);
+                let mut out = Lent::output("table", *room, chance);
+                let got = part::table(*n, &mut listing, &mut out);
+                listing.unchanged()?;
+                settle_output(got, no_number(due), &out)
+            }
+            Case::Gap { n, table, listing, room } => {
+                let due = table::gap(*n, table, listing, *room);
+                let mut table = Lent::input("table", table, chance);
+                let mut listing = Lent::input("listing", listing, chance);
+                let mut out = Lent::output("gaps", *room, chance);
+                let got = part::gap(*n, &mut table, &mut listing, &mut out);
+                table.unchanged()?;
+                listing.unchanged()?;
+                settle_output(got, no_number(due), &out)
+            }
+            Case::Rebuild { n, table, room } => {
+                let due = merge::rebuild(*n, table, *room, chance);
+                look_at_rebuilt(*n, table, &due, every, chance)?;
+                let mut table = Lent::input("table", table, chance);
+                let mut out = Lent::output("standard listing", *room, chance);
+                let got = part::rebuild(*n, &mut table, &mut out);
+                table.unchanged()?;
+                settle_output(got, no_number(due), &out)
+            }
+            Case::Guided { n, table, merges, room } => {
+                let due = merge::rebuild_guided(*n, table, merges, *room);
+                if due.is_ok() {
+                    look_at_rebuilt(*n, table, &due, every, chance)?;
+                }
+                let mut table = Lent::input("table", table, chance);
+                let mut merges = Lent::input("merges", merges, chance);
+                let mut out = Lent::output("standard listing", *room, chance);
+                let got = part::rebuild_guided(*n, &mut table, &mut merges, &mut out);
+                table.unchanged()?;
+                merges.unchanged()?;
+                settle_output(got, no_number(due), &out)
+            }
+            Case::Poll { n, records, room } => {
+                let due = poll::poll(*n, records, *room);
+                let mut records = Lent::input("records", records, chance);
+                let mut out = Lent::output("table", *room, chance);
+                let got = part::poll(*n, &mut records, &mut out);
+                records.unchanged()?;
+                settle_output(got, no_number(due), &out)
+            }
+            Case::SheetTable { sheet, room } => {
+                let due = sheet::sheet_table(sheet, *room).map(|(n, table)| (n as u64, table));
+                let mut sheet = Lent::input("sheet", sheet, chance);
+                let mut out = Lent::output("table", *room, chance);
+                let got = part::sheet_table(&mut sheet, &mut out);
+                sheet.unchanged()?;
+                settle_output(got, due, &out)
+            }
+            Case::SheetName { sheet, leaf } => {
+                let due = sheet::sheet_name(sheet, *leaf).map(|name| (256 * name.start + name.len()) as u64);
+                let mut sheet = Lent::input("sheet", sheet, chance);
+                let got = part::sheet_name(&mut sheet, *leaf);
+                sheet.unchanged()?;
+                settle(got, due)
+            }
+            Case::RebuildSheet { sheet, room } => {
+                let due = sheet::rebuild_sheet(sheet, *room, chance);
+                look_at_rebuilt_sheet(sheet, &due, every, chance)?;
+                let mut sheet = Lent::input("sheet", sheet, chance);
+                let mut out = Lent::output("listing bytes", *room, chance);
+                let got = part::rebuild_sheet(&mut sheet, &mut out);
+                sheet.unchanged()?;
+                settle_number(got, due, &out)
+            }
+        }
+    }
+}
+
+/// The error of a reference that contradicts itself.
+fn agreed(holds: bool, claim: &str) -> Result<(), String> {
+    holds.then_some(()).ok_or_else(|| format!("the reference contradicts itself: {claim}"))
+}
+
+/// A standard listing stands for the same tree and is its own standard listing.
+fn look_at_standard(n: usize, listing: &[u16], due: &Answer<Vec<u16>>) -> Result<(), String> {
+    let Ok(standard) = due else { return Ok(()) };
+    agreed(Tree::from_listing(n, listing) == Tree::from_listing(n, standard), "standard listing of another tree")?;
+    agreed(tree::standardise(n, standard, standard.len()) == *due, "standard listing of a standard listing")
+}
+
+/// The two ways of counting give the same cells, or one cell straight from the definition does. Every quartet stands
+/// in two cells above the diagonal, so all cells together count it four times.
+fn look_at_table(n: usize, listing: &[u16], due: &Answer<Vec<u32>>, chance: &mut Chance) -> Result<(), String> {
+    let Ok(cells) = due else { return Ok(()) };
+    let tree = Tree::from_listing(n, listing);
+    agreed(cells.iter().sum::<u32>() as usize == 4 * poll::records_of(n), "sum of the table")?;
+    if n <= 20 || (n <= 40 && chance.one_in(20)) {
+        agreed(table::by_quartets(&tree) == *cells, "table by quartets")?;
+        agreed(table::by_far_sides(&tree) == *cells, "table by far sides")?;
+    }
+    let (i, j) = (chance.below(n - 1), n - 1);
+    agreed(table::cell_by_pairs(&tree, i, j) == cells[i * n + j], "one cell by pairs")
+}
+
+/// Demands 2 and 3 for one table. A rebuilt tree has the table; merges in another order end alike; and up to seven
+/// leaves the answer is that of a search through every tree.
+fn look_at_rebuilt(
+    n: usize,
+    table: &[u32],
+    due: &Answer<Vec<u16>>,
+    every: &Every,
+    chance: &mut Chance,
+) -> Result<(), String> {
+    let found = match due {
+        Ok(listing) => Some(listing),
+        Err(Refusal::NoTree) => None,
+        Err(_) => return Ok(()),
+    };
+    if let Some(listing) = found {
+        agreed(table::of_tree(&Tree::from_listing(n, listing)) == table, "rebuilt tree without the table")?;
+    }
+    let (_, other) = merge::finished_list(n, table, chance);
+    agreed(other.map(|tree| tree.standard_listing()).as_ref() == found, "merges in another order")?;
+    agreed(n > Every::LEAVES || every.listing_with(table) == found, "search through every tree")
+}
+
+fn look_at_rebuilt_sheet(
+    sheet: &[u8],
+    due: &Answer<Vec<u8>>,
+    every: &Every,
+    chance: &mut Chance,
+) -> Result<(), String> {
+    let Ok((n, table)) = sheet::sheet_table(sheet, usize::MAX) else { return Ok(()) };
+    let wide = |bytes: &Vec<u8>| bytes.chunks(2).map(|low| u16::from_le_bytes([low[0], low[1]])).collect();
+    look_at_rebuilt(n, &table, &due.as_ref().map(wide).map_err(|&refusal| refusal), every, chance)
+}

@@ -1,0 +1,657 @@
+//! Draws: trees, listings, tables, lists of merges, polls and sheets left to chance, good ones and spoilt ones.
+//!
+//! Most draws have few leaves and now and then one has 128. A lent input is spoilt at a random place, a length or a
+//! room is off by one or more, and several of these meet in one case, so that the order of the refusals shows.
+
+use crate::cases::{Case, Kind};
+use crate::chance::Chance;
+use crate::merge::finished_list;
+use crate::part::Cell;
+use crate::poll::{records_of, Record};
+use crate::table::{of_tree, pairs_of, put, quartets};
+use crate::tree::{members, single, LeafSet, Tree};
+use std::collections::HashMap;
+
+/// A case of a kind.
+pub fn any_case(kind: Kind, chance: &mut Chance) -> Case {
+    match kind {
+        Kind::Check => {
+            let n = lent_count(chance);
+            Case::Check { n, listing: lent_listing(n, chance) }
+        }
+        Kind::Standardise => {
+            let n = lent_count(chance);
+            let listing = lent_listing(n, chance);
+            Case::Standardise { n, listing, room: lent_room(listing_length(n, chance), chance) }
+        }
+        Kind::Splits => {
+            let n = lent_count(chance);
+            let listing = lent_listing(n, chance);
+            Case::Splits { n, listing, room: lent_room(8 * listing_length(n, chance).saturating_sub(2), chance) }
+        }
+        Kind::Pairing => {
+            let n = lent_count(chance);
+            let listing = lent_listing(n, chance);
+            Case::Pairing { n, listing, question: lent_question(n, chance) }
+        }
+        Kind::Table => {
+            let n = lent_count(chance);
+            let listing = lent_listing(n, chance);
+            Case::Table { n, listing, room: lent_room(table_length(n, chance), chance) }
+        }
+        Kind::Gap => {
+            let n = lent_count(chance);
+            let (table, listing) = (lent_table(n, chance), lent_listing(n, chance));
+            Case::Gap { n, table, listing, room: lent_room(table_length(n, chance), chance) }
+        }
+        Kind::Rebuild => {
+            let n = lent_count(chance);
+            let table = lent_table(n, chance);
+            Case::Rebuild { n, table, room: lent_room(listing_length(n, chance), chance) }
+        }
+        Kind::Guided => {
+            let n = lent_count(chance);
+            let table = lent_table(n, chance);
+            let merges = lent_merges(n, &table, chance);
+            Case::Guided { n, table, merges, room: lent_room(listing_length(n, chance), chance) }
+        }
+        Kind::Poll => {
+            let n = lent_poll_count(chance);
+            let records = lent_records(n, chance);
+            Case::Poll { n, records, room: lent_room(table_length(n, chance), chance) }
+        }
+        Kind::SheetTable => {
+            let n = good_count(chance);
+            let cells = (0..n * n).map(|_| u32::any(chance)).collect();
+            let sheet = lent_sheet(n, cells, chance);
+            Case::SheetTable { sheet, room: lent_room(n * n, chance) }
+        }
+        Kind::SheetName => {
+            let n = good_count(chance);
+            let sheet = lent_sheet(n, vec![0; n * n], chance);
+            let leaf = match chance.below(8) {
+                0 => chance.of(&[n, n + 1, n + 256, 256, 65_536, 1 << 32, usize::MAX]),
+                _ => chance.below(n),
+            };
+            Case::SheetName { sheet, leaf }
+        }
+        Kind::RebuildSheet => {
+            let n = good_count(chance);
+            let cells = any_table(n, chance);
+            let sheet = lent_sheet(n, cells, chance);
+            Case::RebuildSheet { sheet, room: lent_room(4 * (n - 2), chance) }
+        }
+    }
+}
+
+// Leaf counts, lengths and rooms.
+
+/// Leaf counts that are refused, small ones and ones whose low bits look right.
+const BAD_COUNTS: [usize; 15] =
+    [0, 1, 2, 2, 129, 129, 130, 255, 256, 259, 65_535, 65_540, 1 << 32, (1 << 32) + 5, usize::MAX];
+
+fn is_good(n: usize) -> bool {
+    (3..=128).contains(&n)
+}
+
+fn good_count(chance: &mut Chance) -> usize {
+    match chance.below(1000) {
+        0 => 128,
+        1 => chance.between(101, 127),
+        2..=11 => chance.between(33, 100),
+        12..=149 => chance.between(15, 32),
+        150..=449 => chance.between(8, 14),
+        _ => chance.between(3, 7),
+    }
+}
+
+fn lent_count(chance: &mut Chance) -> usize {
+    match chance.below(16) {
+        0 => chance.of(&BAD_COUNTS),
+        _ => good_count(chance),
+    }
+}
+
+fn lent_poll_count(chance: &mut Chance) -> usize {
+    match chance.below(1000) {
+        0..=59 => chance.of(&[0, 1, 2, 3, 3, 33, 33, 34, 36, 128, 260, (1 << 32) + 4, usize::MAX]),
+        60..=63 => 32,
+        64..=99 => chance.between(15, 31),
+        100..=299 => chance.between(9, 14),
+        _ => chance.between(4, 8),
+    }
+}
+
+/// How many numbers a listing needs; something small for a count without a sensible length.
+fn listing_length(n: usize, chance: &mut Chance) -> usize {
+    match n {
+        2..=131 => 2 * (n - 2),
+        _ => chance.below(8),
+    }
+}
+
+/// How many cells a table needs; something small for a count without a sensible length.
+fn table_length(n: usize, chance: &mut Chance) -> usize {
+    match n {
+        0..=131 => n * n,
+        _ => chance.below(8),
+    }
+}
+
+/// A room that is mostly enough.
+fn lent_room(result: usize, chance: &mut Chance) -> usize {
+    match chance.below(12) {
+        0 => result.saturating_sub(1),
+        1 => chance.below(result + 1),
+        2 => result + 1,
+        3..=4 => result + chance.between(2, 40),
+        _ => result,
+    }
+}
+
+/// A length that is off by one or more.
+fn spoil_length<T: Cell>(lent: &mut Vec<T>, chance: &mut Chance) {
+    match chance.below(6) {
+        0 | 1 => drop(lent.pop()),
+        2 => lent.truncate(lent.len().saturating_sub(2)),
+        3 | 4 => lent.push(T::any(chance)),
+        _ => lent.truncate(lent.len() / 2),
+    }
+}
+
+// Trees and listings.
+
+/// A tree of any shape: a comb, a balanced one, one cut at random places, or one grown leaf by leaf.
+pub fn any_tree(n: usize, chance: &mut Chance) -> Tree {
+    match chance.below(8) {
+        0 => comb(&(0..n).collect::<Vec<usize>>()),
+        1 => comb(&chance.order(n)),
+        2 => cut(&chance.order(n), |size| size / 2),
+        3 => {
+            let order = chance.order(n);
+            cut(&order, |size| chance.between(1, size - 1))
+        }
+        _ => Tree::grown(n, |edges| chance.below(edges)),
+    }
+}
+
+/// The comb with the leaves in this order: every beginning of the order is one side of an edge.
+fn comb(order: &[usize]) -> Tree {
+    cut(order, |size| size - 1)
+}
+
+/// The tree of the parts that an order falls into when each is cut in two until every leaf is alone.
+fn cut(order: &[usize], mut place: impl FnMut(usize) -> usize) -> Tree {
+    let mut sides: Vec<LeafSet> = Vec::new();
+    let mut parts = vec![order];
+    while let Some(part) = parts.pop() {
+        if part.len() < order.len() {
+            sides.push(part.iter().map(|&leaf| single(leaf)).sum());
+        }
+        if part.len() > 1 {
+            let (left, right) = part.split_at(place(part.len()));
+            parts.extend([left, right]);
+        }
+    }
+    Tree::from_sides(order.len(), sides)
+}
+
+/// A listing of a tree, seldom the standard one: nodes in any order with children first, and children in any order.
+pub fn any_listing(tree: &Tree, chance: &mut Chance) -> Vec<u16> {
+    let mut waiting = tree.nodes();
+    let mut numbers: HashMap<LeafSet, u16> = (1..tree.leaves).map(|leaf| (single(leaf), leaf as u16)).collect();
+    let mut listing = Vec::new();
+    while !waiting.is_empty() {
+        let known = |place: &usize| waiting[*place].children.iter().all(|child| numbers.contains_key(child));
+        let ready: Vec<usize> = (0..waiting.len()).filter(known).collect();
+        let node = waiting.swap_remove(chance.of(&ready));
+        let mut row = node.children.map(|child| numbers[&child]);
+        chance.shuffle(&mut row);
+        numbers.insert(node.under, (tree.leaves + listing.len() / 2) as u16);
+        listing.extend(row);
+    }
+    listing
+}
+
+fn lent_listing(n: usize, chance: &mut Chance) -> Vec<u16> {
+    let mut listing: Vec<u16> = match n {
+        3..=128 => any_listing(&any_tree(n, chance), chance),
+        _ => (0..listing_length(n, chance)).map(|_| chance.below(260) as u16).collect(),
+    };
+    if chance.one_in(3) {
+        for _ in 0..chance.between(1, 2) {
+            spoil_child(n, &mut listing, chance);
+        }
+    }
+    if chance.one_in(12) {
+        spoil_length(&mut listing, chance);
+    }
+    listing
+}
+
+fn spoil_child(n: usize, listing: &mut [u16], chance: &mut Chance) {
+    if listing.is_empty() || !is_good(n) {
+        return;
+    }
+    let position = chance.below(listing.len());
+    let row = position / 2;
+    listing[position] = match chance.below(9) {
+        0 => 0,
+        1 => (n + row) as u16,
+        2 => chance.between(n + row, 2 * n) as u16,
+        3 => (2 * n - 3) as u16,
+        4 => u16::MAX,
+        5 => listing[position].wrapping_add(256),
+        6 => chance.below(2 * n) as u16,
+        7 => chance.of(listing),
+        _ => listing[position.saturating_sub(1)],
+    };
+}
+
+fn lent_question(n: usize, chance: &mut Chance) -> Vec<u16> {
+    let bound = n.clamp(4, 128);
+    let mut question: Vec<u16> = chance.order(bound).into_iter().take(4).map(|leaf| leaf as u16).collect();
+    if chance.one_in(4) {
+        let position = chance.below(4);
+        question[position] = match chance.below(6) {
+            0 => bound as u16,
+            1 => u16::MAX,
+            2 => question[position] + 256,
+            3 => 128,
+            _ => chance.of(&question),
+        };
+    }
+    if chance.one_in(12) {
+        spoil_length(&mut question, chance);
+    }
+    question
+}
+
+// Tables and lists of merges.
+
+/// A table with a zero diagonal and equal halves: a tree's, one close to it, or none at all.
+pub fn any_table(n: usize, chance: &mut Chance) -> Vec<u32> {
+    let tree = any_tree(n, chance);
+    let mut cells = of_tree(&tree);
+    match chance.below(20) {
+        0..=2 => change_cell(&mut cells, n, chance),
+        3 => shift_two_cells(&mut cells, n, chance),
+        4 => shift_between_sides(&mut cells, &tree, chance),
+        5 => shift_row(&mut cells, n, chance),
+        6 => exchange_cells(&mut cells, n, chance),
+        7 => mix_in(&mut cells, n, chance),
+        8 => {
+            let most = chance.of(&[1, 2, 3, pairs_of(n - 2) as usize + 1]);
+            fill(&mut cells, n, || chance.below(most + 1) as u32);
+        }
+        9 => {
+            let value = chance.of(&[0, 1, pairs_of(n - 2) as u32, u32::MAX]);
+            fill(&mut cells, n, || value);
+        }
+        10 => {
+            let most = chance.between(1, 5);
+            for _ in 0..most {
+                change_cell(&mut cells, n, chance);
+            }
+        }
+        _ => {}
+    }
+    cells
+}
+
+/// Two different leaves.
+fn two_leaves(n: usize, chance: &mut Chance) -> (usize, usize) {
+    let i = chance.below(n);
+    let j = (i + chance.between(1, n - 1)) % n;
+    (i, j)
+}
+
+fn fill(cells: &mut [u32], n: usize, mut value: impl FnMut() -> u32) {
+    for i in 0..n {
+        for j in i + 1..n {
+            put(cells, n, (i, j), value());
+        }
+    }
+}
+
+/// Another value for a cell: close to it, or equal to it in its low bits.
+fn other_value(cell: u32, chance: &mut Chance) -> u32 {
+    match chance.below(8) {
+        0 | 1 => cell.wrapping_add(1),
+        2 | 3 => cell.wrapping_sub(1),
+        4 => cell.wrapping_add(chance.of(&[1 << 8, 1 << 16, 1 << 31])),
+        5 => cell ^ 1 << chance.below(32),
+        6 => chance.of(&[0, 1, 7_875, 65_535, u32::MAX]),
+        _ => u32::any(chance),
+    }
+}
+
+fn change_cell(cells: &mut [u32], n: usize, chance: &mut Chance) {
+    let (i, j) = two_leaves(n, chance);
+    let value = other_value(cells[i * n + j], chance);
+    put(cells, n, (i, j), value);
+}
+
+/// Adds 1 to a cell and takes 1 from another.
+fn shift_two_cells(cells: &mut [u32], n: usize, chance: &mut Chance) {
+    for by in [1, u32::MAX] {
+        let (i, j) = two_leaves(n, chance);
+        put(cells, n, (i, j), cells[i * n + j].wrapping_add(by));
+    }
+}
+
+/// Adds 1 to every cell between the two sides of an edge, now and then with one leaf left out.
+fn shift_between_sides(cells: &mut [u32], tree: &Tree, chance: &mut Chance) {
+    let n = tree.leaves;
+    let edges: Vec<LeafSet> = tree.edges().collect();
+    let side = chance.of(&edges);
+    let left_out = chance.below(2 * n);
+    for i in members(side).filter(|&i| i != left_out) {
+        for j in (0..n).filter(|&j| side & single(j) == 0) {
+            put(cells, n, (i, j), cells[i * n + j].wrapping_add(1));
+        }
+    }
+}
+
+fn shift_row(cells: &mut [u32], n: usize, chance: &mut Chance) {
+    let i = chance.below(n);
+    for j in (0..n).filter(|&j| j != i) {
+        put(cells, n, (i, j), cells[i * n + j].wrapping_add(1));
+    }
+}
+
+fn exchange_cells(cells: &mut [u32], n: usize, chance: &mut Chance) {
+    let (one, other) = (two_leaves(n, chance), two_leaves(n, chance));
+    let value = cells[one.0 * n + one.1];
+    put(cells, n, one, cells[other.0 * n + other.1]);
+    put(cells, n, other, value);
+}
+
+/// Takes some cells, or all cells of some leaves, from another tree's table.
+fn mix_in(cells: &mut [u32], n: usize, chance: &mut Chance) {
+    let other = of_tree(&any_tree(n, chance));
+    let leaves: Vec<bool> = (0..n).map(|_| chance.one_in(2)).collect();
+    let by_leaf = chance.one_in(2);
+    for i in 0..n {
+        for j in i + 1..n {
+            let taken = match by_leaf {
+                true => leaves[i] && leaves[j],
+                false => chance.one_in(n),
+            };
+            if taken {
+                put(cells, n, (i, j), other[i * n + j]);
+            }
+        }
+    }
+}
+
+fn lent_table(n: usize, chance: &mut Chance) -> Vec<u32> {
+    let mut cells = if is_good(n) { any_table(n, chance) } else { vec![0; table_length(n, chance)] };
+    if is_good(n) && chance.one_in(8) {
+        for _ in 0..chance.between(1, 2) {
+            let leaf = chance.below(n);
+            cells[leaf * n + leaf] = chance.of(&[1, 2, 256, 65_536, 1 << 31, u32::MAX]);
+        }
+    }
+    if is_good(n) && chance.one_in(8) {
+        for _ in 0..chance.between(1, 2) {
+            let (i, j) = two_leaves(n, chance);
+            cells[i * n + j] = other_value(cells[i * n + j], chance);
+        }
+    }
+    if chance.one_in(12) {
+        spoil_length(&mut cells, chance);
+    }
+    cells
+}
+
+/// A finished list of eligible merges of the table, each subtree named by any of its leaves, filled up to n−1 steps.
+pub fn any_merges(n: usize, table: &[u32], chance: &mut Chance) -> Vec<u16> {
+    let (list, _) = finished_list(n, table, chance);
+    let mut merges = Vec::new();
+    for pair in list {
+        let mut named = pair.map(|subtree| chance.of(&members(subtree).collect::<Vec<usize>>()) as u16);
+        chance.shuffle(&mut named);
+        merges.extend(named);
+    }
+    merges.resize_with(2 * (n - 1), || chance.below(n) as u16);
+    merges
+}
+
+fn lent_merges(n: usize, table: &[u32], chance: &mut Chance) -> Vec<u16> {
+    let mut merges: Vec<u16> = match n {
+        3..=128 if table.len() == n * n => any_merges(n, table, chance),
+        _ => (0..listing_length(n, chance) + 2).map(|_| chance.below(131) as u16).collect(),
+    };
+    if is_good(n) && chance.one_in(3) {
+        spoil_step(n, &mut merges, chance);
+    }
+    if chance.one_in(12) {
+        spoil_length(&mut merges, chance);
+    }
+    merges
+}
+
+fn spoil_step(n: usize, merges: &mut [u16], chance: &mut Chance) {
+    let steps = merges.len() / 2;
+    let (step, other) = (chance.below(steps), chance.below(steps));
+    let (place, leaf) = (2 * step + chance.below(2), chance.below(n) as u16);
+    match chance.below(9) {
+        0 => merges[place] = n as u16,
+        1 => merges[place] = chance.of(&[u16::MAX, 128, 256]),
+        2 => merges[place] += 256,
+        3 => merges[2 * step + 1] = merges[2 * step],
+        4 => merges.copy_within(2 * other..2 * other + 2, 2 * step),
+        5 => {
+            merges.swap(2 * step, 2 * other);
+            merges.swap(2 * step + 1, 2 * other + 1);
+        }
+        6 => merges.iter_mut().for_each(|named| *named = chance.below(n) as u16),
+        _ => merges[place] = leaf,
+    }
+}
+
+// Polls.
+
+/// The poll of a tree's own pairings.
+pub fn poll_of_tree(tree: &Tree) -> Vec<Record> {
+    let record = |four: [usize; 4]| Record { leaves: four.map(|leaf| leaf as u8), code: tree.pairing(four) };
+    quartets(tree.leaves).map(record).collect()
+}
+
+fn lent_records(n: usize, chance: &mut Chance) -> Vec<Record> {
+    let mut records: Vec<Record> = match n {
+        4..=10 if chance.one_in(3) => poll_of_tree(&any_tree(n, chance)),
+        4..=34 => {
+            let codes = chance.between(1, 4);
+            let record = |four: [usize; 4]| (four.map(|leaf| leaf as u8), chance.below(codes) as u8);
+            quartets(n).map(record).map(|(leaves, code)| Record { leaves, code }).collect()
+        }
+        _ => (0..chance.below(4)).map(|_| Record::any(chance)).collect(),
+    };
+    assert!(!(4..=34).contains(&n) || records.len() == records_of(n), "a poll has n(n−1)(n−2)(n−3)/24 records");
+    if !records.is_empty() && chance.one_in(3) {
+        for _ in 0..chance.between(1, 3) {
+            spoil_record(&mut records, chance);
+        }
+    }
+    if chance.one_in(12) {
+        spoil_length(&mut records, chance);
+    }
+    records
+}
+
+fn spoil_record(records: &mut [Record], chance: &mut Chance) {
+    let (any, other, leaf) = (chance.below(records.len()), chance.below(records.len()), chance.below(4));
+    let place = chance.of(&[any, any, any, records.len() - 1]);
+    match chance.below(9) {
+        0 => records.swap(place, other),
+        1 => records[place] = records[other],
+        2 => records[place].leaves.swap(leaf, 3 - leaf),
+        3 => records[place].leaves[leaf] = u8::any(chance),
+        4 => records[place].leaves[leaf] ^= 1 << chance.below(8),
+        5 => records[place].code = 4,
+        6 => records[place].code ^= chance.of(&[4, 8, 128]),
+        7 => records[place] = Record::any(chance),
+        _ => records[place].code = chance.between(4, 255) as u8,
+    }
+}
+
+// Sheets.
+
+/// The parts of a sheet, each open to being spoilt.
+struct Parts {
+    names: Vec<Vec<u8>>,
+    /// Bytes between the last name and the offset.
+    left_over: Vec<u8>,
+    cells: Vec<u16>,
+    count: u16,
+    /// The offset that the trailer names; nothing for the place where the cells begin.
+    offset: Option<u32>,
+    ending: [u8; 2],
+}
+
+impl Parts {
+    fn bytes(&self) -> Vec<u8> {
+        let mut sheet: Vec<u8> = self.names.concat();
+        sheet.extend(&self.left_over);
+        let offset = self.offset.unwrap_or(sheet.len() as u32);
+        sheet.extend(self.cells.iter().flat_map(|cell| cell.to_le_bytes()));
+        sheet.extend(self.count.to_le_bytes());
+        sheet.extend(offset.to_le_bytes());
+        sheet.extend(self.ending);
+        sheet
+    }
+}
+
+const NAME_BYTES: &[u8] = b"ABCDEFGHIJKLMNOPQRSTUVWXYZabcdefghijklmnopqrstuvwxyz0123456789.-";
+
+/// Bytes next to those allowed in a name.
+const BAD_BYTES: &[u8] = b"\0 ,/:;@[`{_+~\x7F\x80\xC1\xE1\xFF";
+
+/// A name with its length byte.
+fn name(length: usize, chance: &mut Chance) -> Vec<u8> {
+    let mut name = vec![length as u8];
+    name.extend((0..length).map(|_| chance.of(NAME_BYTES)));
+    name
+}
+
+fn any_names(n: usize, chance: &mut Chance) -> Vec<Vec<u8>> {
+    let lengths = chance.of(&[(1, 3), (1, 3), (1, 12), (1, 40), (40, 40)]);
+    let mut names: Vec<Vec<u8>> = Vec::new();
+    while names.len() < n {
+        let name = name(chance.between(lengths.0, lengths.1), chance);
+        if !names.contains(&name) {
+            names.push(name);
+        }
+    }
+    names
+}
+
+fn parts(n: usize, table: &[u32], chance: &mut Chance) -> Parts {
+    let above = (0..n).flat_map(|i| (i + 1..n).map(move |j| (i, j)));
+    Parts {
+        names: any_names(n, chance),
+        left_over: Vec::new(),
+        cells: above.map(|(i, j)| table[i * n + j] as u16).collect(),
+        count: n as u16,
+        offset: None,
+        ending: [0x51, 0x54],
+    }
+}
+
+/// A sheet with nothing wrong.
+pub fn good_sheet(n: usize, table: &[u32], chance: &mut Chance) -> Vec<u8> {
+    parts(n, table, chance).bytes()
+}
+
+fn lent_sheet(n: usize, table: Vec<u32>, chance: &mut Chance) -> Vec<u8> {
+    if chance.one_in(40) {
+        return short_sheet(chance);
+    }
+    let mut parts = parts(n, &table, chance);
+    let spoilt = if chance.one_in(2) { chance.between(1, 2) } else { 0 };
+    for _ in 0..spoilt {
+        spoil_parts(n, &mut parts, chance);
+    }
+    let mut sheet = parts.bytes();
+    if chance.one_in(8) {
+        spoil_bytes(&mut sheet, chance);
+    }
+    sheet
+}
+
+/// A sheet of a few bytes, now and then with a trailer, whose offset may fit the length in 32 bits alone.
+fn short_sheet(chance: &mut Chance) -> Vec<u8> {
+    let length = chance.between(0, 20);
+    let mut sheet: Vec<u8> = (0..length).map(|_| u8::any(chance)).collect();
+    if chance.one_in(2) {
+        let count = chance.of(&[0u16, 2, 3, 3, 4, 5, 128, 129]);
+        let cells = count.saturating_sub(1) * count;
+        let fitting = (length as u32).wrapping_sub(u32::from(cells));
+        sheet.extend(count.to_le_bytes());
+        sheet.extend(chance.of(&[fitting, fitting, fitting, 0, 1, 9, u32::MAX]).to_le_bytes());
+    }
+    if chance.below(4) > 0 {
+        sheet.extend([0x51, 0x54]);
+    }
+    sheet
+}
+
+fn spoil_parts(n: usize, parts: &mut Parts, chance: &mut Chance) {
+    let (place, other) = (chance.below(parts.names.len()), chance.below(parts.names.len()));
+    let last = parts.names.len() - 1;
+    match chance.below(16) {
+        0 => parts.names[place][0] = chance.of(&[0, 1, 2, 40, 41, 127, 128, 255]),
+        1 => parts.names[place] = name(chance.of(&[0, 40, 41, 42]), chance),
+        2 | 3 => {
+            let at = chance.below(parts.names[place].len());
+            parts.names[place][at] = chance.of(BAD_BYTES);
+        }
+        4 | 5 => parts.names[place] = parts.names[other].clone(),
+        6 if last > 0 => drop(parts.names.remove(place)),
+        7 => parts.left_over = name(chance.between(1, 4), chance),
+        8 => parts.left_over = vec![u8::any(chance)],
+        9 => run_past_offset(n, parts, chance),
+        10 => parts.names[last][0] = parts.names[last][0].wrapping_add(1),
+        11 => parts.count = chance.of(&[0, 1, 2, 129, 130, 255, 256, u16::MAX, parts.count ^ 256]),
+        12 => parts.count = parts.count.wrapping_add(chance.of(&[1, u16::MAX])),
+        13 => {
+            let cells_at = parts.names.concat().len() as u32;
+            let near = [cells_at + 1, cells_at.saturating_sub(1), 0, u32::MAX, cells_at.wrapping_sub(1 << 16)];
+            parts.offset = Some(chance.of(&near));
+        }
+        14 => parts.cells.truncate(parts.cells.len() - 1),
+        _ => parts.ending = chance.of(&[[0x54, 0x51], [0x51, 0x55], [0x50, 0x54], [0, 0]]),
+    }
+}
+
+/// The last name runs past the offset, and with the bytes of the cells it equals an earlier name.
+fn run_past_offset(n: usize, parts: &mut Parts, chance: &mut Chance) {
+    let last = parts.names.len() - 1;
+    if last == 0 || n * (n - 1) / 2 > parts.cells.len() {
+        return;
+    }
+    let length = chance.between(2, (parts.cells.len() + 1).min(40));
+    let past = chance.between(1, length - 1);
+    let equal = name(length, chance);
+    let mut tail = equal[1 + length - past..].to_vec();
+    tail.resize(tail.len() + tail.len() % 2, b'a');
+    for (cell, bytes) in parts.cells.iter_mut().zip(tail.chunks(2)) {
+        *cell = u16::from_le_bytes([bytes[0], bytes[1]]);
+    }
+    let earlier = chance.below(last);
+    parts.names[last] = equal[..1 + length - past].to_vec();
+    parts.names[earlier] = equal;
+}
+
+fn spoil_bytes(sheet: &mut Vec<u8>, chance: &mut Chance) {
+    let place = chance.below(sheet.len());
+    match chance.below(5) {
+        0 => drop(sheet.remove(place)),
+        1 => sheet.insert(place, chance.of(NAME_BYTES)),
+        2 => sheet.truncate(place),
+        3 => sheet[place] = u8::any(chance),
+        _ => sheet[place] ^= 1 << chance.below(8),
+    }
+}

@@ -1,0 +1,135 @@
+//! Every tree of few leaves, and every finished list of merges of a table: demand 3 by trying all there is.
+//!
+//! For every table with a zero diagonal and equal halves one of two things holds. Either every finished list leaves
+//! one tree, always with the same standard listing, and it is the only binary tree with that table. Or every finished
+//! list leaves more than one subtree, and no binary tree has that table.
+
+use crate::chance::Chance;
+use crate::draw;
+use crate::merge::Merging;
+use crate::table;
+use crate::tree::{LeafSet, Tree};
+use std::collections::{BTreeSet, HashMap, HashSet};
+
+/// Every tree of up to seven leaves, found by its table.
+pub struct Every {
+    listings: HashMap<Vec<u32>, Vec<u16>>,
+}
+
+/// The ends of the finished lists of a table.
+struct Ends {
+    /// The standard listing of the one tree left, or nothing where more than one subtree is left.
+    found: BTreeSet<Option<Vec<u16>>>,
+    /// How many different states the lists pass through. A state is the set of subtrees made so far.
+    states: HashSet<Vec<LeafSet>>,
+}
+
+/// How much was tried.
+#[derive(Default)]
+pub struct Tried {
+    pub tables: usize,
+    pub states: usize,
+}
+
+impl Every {
+    pub const LEAVES: usize = 7;
+
+    /// Counts the table of every tree. Two trees with one table stop the program.
+    pub fn counted() -> Every {
+        let mut listings = HashMap::new();
+        for n in 3..=Every::LEAVES {
+            for tree in Tree::every(n) {
+                let before = listings.insert(table::of_tree(&tree), tree.standard_listing());
+                assert_eq!(before, None, "two trees share a table");
+            }
+        }
+        Every { listings }
+    }
+
+    /// The standard listing of the one tree that has the table, if there is one.
+    pub fn listing_with(&self, table: &[u32]) -> Option<&Vec<u16>> {
+        self.listings.get(table)
+    }
+
+    /// Demand 3 for one table of at most seven leaves, over all its finished lists.
+    fn try_table(&self, n: usize, table: &[u32], tried: &mut Tried) -> Result<(), String> {
+        let mut ends = Ends { found: BTreeSet::new(), states: HashSet::new() };
+        ends.follow(Merging::start(n, table));
+        tried.tables += 1;
+        tried.states += ends.states.len();
+        let due = BTreeSet::from([self.listing_with(table).cloned()]);
+        if ends.found == due {
+            return Ok(());
+        }
+        Err(format!("demand 3 fails: n = {n}, table {table:?}, ends {:?}, due {due:?}", ends.found))
+    }
+
+    /// Demand 3 for the tables of all trees of 3 to 6 leaves and these with any one cell changed, for all tables of 3
+    /// leaves with cells up to 3, of 4 leaves with cells up to 2, of 5 leaves with cells 0, 1 or 3, and for so many
+    /// more of 5 to 7 leaves drawn by chance.
+    pub fn try_demand_3(&self, drawn: usize) -> Result<Tried, String> {
+        let mut tried = Tried::default();
+        for n in 3..=6 {
+            for tree in Tree::every(n) {
+                let own = table::of_tree(&tree);
+                self.try_table(n, &own, &mut tried)?;
+                for (i, j) in above_diagonal(n) {
+                    for value in 0..=table::pairs_of(n - 2) as u32 + 1 {
+                        let mut changed = own.clone();
+                        table::put(&mut changed, n, (i, j), value);
+                        self.try_table(n, &changed, &mut tried)?;
+                    }
+                }
+            }
+        }
+        self.try_all_with(3, &[0, 1, 2, 3], &mut tried)?;
+        self.try_all_with(4, &[0, 1, 2], &mut tried)?;
+        self.try_all_with(5, &[0, 1, 3], &mut tried)?;
+        let mut chance = Chance::new(3, 3);
+        for _ in 0..drawn {
+            let n = chance.between(5, Every::LEAVES);
+            self.try_table(n, &draw::any_table(n, &mut chance), &mut tried)?;
+        }
+        Ok(tried)
+    }
+
+    /// All tables with a zero diagonal and equal halves whose other cells are among these.
+    fn try_all_with(&self, n: usize, values: &[u32], tried: &mut Tried) -> Result<(), String> {
+        let places = above_diagonal(n);
+        for mut code in 0..values.len().pow(places.len() as u32) {
+            let mut cells = vec![0; n * n];
+            for &place in &places {
+                table::put(&mut cells, n, place, values[code % values.len()]);
+                code /= values.len();
+            }
+            self.try_table(n, &cells, tried)?;
+        }
+        Ok(())
+    }
+}
+
+impl Ends {
+    /// Goes on from a state with every eligible pair. What a state leads to depends on the subtrees made alone, in
+    /// whatever order, as m comes from them; so each state is followed once.
+    fn follow(&mut self, merging: Merging) {
+        let mut made = merging.made.clone();
+        made.sort();
+        if !self.states.insert(made) {
+            return;
+        }
+        let eligible = merging.eligible_pairs();
+        if eligible.is_empty() {
+            self.found.insert(merging.tree().map(|tree| tree.standard_listing()));
+        }
+        for pair in eligible {
+            let mut next = merging.clone();
+            next.merge(pair);
+            self.follow(next);
+        }
+    }
+}
+
+/// The cells above the diagonal, row by row.
+fn above_diagonal(n: usize) -> Vec<(usize, usize)> {
+    (0..n).flat_map(|i| (i + 1..n).map(move |j| (i, j))).collect()
+}

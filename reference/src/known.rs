@@ -1,0 +1,351 @@
+//! The paper's own cases: "Tables and listings to try", the sheet, and the borders that the rules name.
+//!
+//! Each case states what the paper says of it; the part and the reference both have to give it.
+
+use crate::cases::{Case, Outcome};
+use crate::poll::Record;
+use crate::sheet;
+use crate::table::{put, quartets};
+
+/// What the paper says of a case.
+pub enum Due {
+    /// Accepted with this number (0 where there is none); these cells are written and no others.
+    Written(u64, Vec<i64>),
+    /// Accepted with this number; these are some of the cells written.
+    Cells(u64, Vec<(usize, i64)>),
+    /// Refused: number and figure.
+    Refused(u64, u64),
+}
+
+pub struct Known {
+    pub name: &'static str,
+    pub case: Case,
+    pub due: Due,
+}
+
+impl Due {
+    /// Does an outcome say what the paper says?
+    pub fn agrees(&self, outcome: &Outcome) -> bool {
+        let Outcome { reply, written } = outcome;
+        match self {
+            Due::Written(figure, cells) => *reply == figure << 8 && written == cells,
+            Due::Cells(figure, cells) => {
+                *reply == figure << 8 && cells.iter().all(|&(place, value)| written.get(place) == Some(&value))
+            }
+            Due::Refused(number, figure) => *reply == number | figure << 8 && written.is_empty(),
+        }
+    }
+}
+
+/// A table: the cells named stand for their mirrors too, the rest have one value, the diagonal is 0.
+fn table(n: usize, named: &[(usize, usize, u32)], rest: u32) -> Vec<u32> {
+    let mut cells = vec![0; n * n];
+    for i in 0..n {
+        for j in i + 1..n {
+            put(&mut cells, n, (i, j), rest);
+        }
+    }
+    for &(i, j, value) in named {
+        put(&mut cells, n, (i, j), value);
+    }
+    cells
+}
+
+/// The table of the paper's sheet.
+fn p7() -> Vec<u32> {
+    table(5, &[(0, 1, 3), (0, 2, 1), (1, 2, 1), (2, 3, 1), (2, 4, 1), (3, 4, 3)], 0)
+}
+
+const P7_LISTING: [u16; 6] = [3, 4, 2, 5, 1, 6];
+
+const PAPER_SHEET: [u8; 38] = [
+    0x01, 0x61, 0x01, 0x62, 0x01, 0x63, 0x01, 0x64, 0x01, 0x65, //
+    0x03, 0x00, 0x01, 0x00, 0x00, 0x00, 0x00, 0x00, 0x01, 0x00, //
+    0x00, 0x00, 0x00, 0x00, 0x01, 0x00, 0x01, 0x00, 0x03, 0x00, //
+    0x05, 0x00, 0x0A, 0x00, 0x00, 0x00, 0x51, 0x54,
+];
+
+fn wide<T: Copy + Into<i64>>(cells: &[T]) -> Vec<i64> {
+    cells.iter().map(|&cell| cell.into()).collect()
+}
+
+/// The comb with the leaves in order: rows n−2 n−1, then each leaf downwards with the node before.
+fn comb(n: usize) -> Vec<u16> {
+    let mut listing = vec![n as u16 - 2, n as u16 - 1];
+    listing.extend((1..n - 2).rev().zip(n..).flat_map(|(leaf, node)| [leaf as u16, node as u16]));
+    listing
+}
+
+/// A sheet of these names and cells, with the offset where the cells begin.
+fn sheet(names: &[Vec<u8>], cells: &[u16]) -> Vec<u8> {
+    let mut bytes = Vec::new();
+    for name in names {
+        bytes.push(name.len() as u8);
+        bytes.extend(name);
+    }
+    let offset = bytes.len() as u32;
+    bytes.extend(cells.iter().flat_map(|cell| cell.to_le_bytes()));
+    bytes.extend((names.len() as u16).to_le_bytes());
+    bytes.extend(offset.to_le_bytes());
+    bytes.extend([0x51, 0x54]);
+    bytes
+}
+
+/// A sheet of three leaves with these names, all cells 0.
+fn three(names: [&[u8]; 3]) -> Vec<u8> {
+    sheet(&names.map(|name| name.to_vec()), &[0; 3])
+}
+
+/// A sheet that is its trailer alone.
+fn trailer(count: u16, offset: u32) -> Vec<u8> {
+    [&count.to_le_bytes()[..], &offset.to_le_bytes()[..], &[0x51, 0x54]].concat()
+}
+
+/// The longest sheet: 128 names of 40 bytes.
+fn longest_sheet() -> Vec<u8> {
+    let names: Vec<Vec<u8>> = (0..128).map(|leaf| format!("strain-{leaf:033}").into_bytes()).collect();
+    let longest = sheet(&names, &[0; 8_128]);
+    assert_eq!(longest.len(), sheet::LONGEST);
+    longest
+}
+
+/// The poll of the comb of five leaves in order, whose table is P7's: every quartet is paired first with second.
+fn p7_poll() -> Vec<Record> {
+    [[0, 1, 2, 3], [0, 1, 2, 4], [0, 1, 3, 4], [0, 2, 3, 4], [1, 2, 3, 4]]
+        .map(|leaves| Record { leaves, code: 0 })
+        .to_vec()
+}
+
+/// Every known case.
+pub fn known_cases() -> Vec<Known> {
+    let mut cases = rebuilds();
+    cases.extend(listings());
+    cases.extend(tables());
+    cases.extend(counts());
+    cases.extend(polls());
+    cases.extend(sheets());
+    cases
+}
+
+fn rebuilds() -> Vec<Known> {
+    let rebuilt = |name, n, table, listing: &[u16]| Known {
+        name,
+        case: Case::Rebuild { n, table, room: 2 * (n - 2) },
+        due: Due::Written(0, wide(listing)),
+    };
+    let refused = |name, n, table, number, figure| Known {
+        name,
+        case: Case::Rebuild { n, table, room: 2 * (n - 2) },
+        due: Due::Refused(number, figure),
+    };
+    let guided = |name, merges: [u16; 8], due| Known {
+        name,
+        case: Case::Guided { n: 5, table: p7(), merges: merges.to_vec(), room: 6 },
+        due,
+    };
+    let mut filled = table(6, &[], 0);
+    filled[1] = 1;
+    filled[5 * 6 + 5] = 1;
+    let mut unequal = table(6, &[], 0);
+    unequal[2 * 6 + 1] = 1;
+    unequal[5 * 6 + 1] = 1;
+    vec![
+        rebuilt("P1", 3, table(3, &[], 0), &[1, 2]),
+        refused("P2", 3, table(3, &[(0, 1, 1)], 0), 6, 0),
+        rebuilt("P3", 4, table(4, &[(0, 1, 1), (2, 3, 1)], 0), &[2, 3, 1, 4]),
+        rebuilt("P4", 4, table(4, &[(0, 2, 1), (1, 3, 1)], 0), &[1, 3, 4, 2]),
+        refused("P5", 4, table(4, &[], 0), 6, 0),
+        refused("P6", 4, table(4, &[(0, 1, 1)], 0), 6, 0),
+        rebuilt("P7", 5, p7(), &P7_LISTING),
+        rebuilt("P8", 6, table(6, &[(0, 1, 6), (2, 3, 6), (4, 5, 6)], 1), &[2, 3, 4, 5, 6, 7, 1, 8]),
+        guided("P12", [3, 4, 0, 1, 2, 3, 0, 2], Due::Written(0, wide(&P7_LISTING))),
+        guided("P12 guided from 0 2", [0, 2, 3, 4, 0, 1, 2, 3], Due::Refused(12, 0)),
+        guided("P12 with one subtree twice at step 2", [3, 4, 0, 1, 4, 3, 0, 2], Due::Refused(12, 2)),
+        guided("P12 with leaf 5 at step 3", [3, 4, 0, 1, 2, 3, 0, 5], Due::Refused(12, 3)),
+        refused("orders that leave 2 subtrees or 3", 4, table(4, &[(0, 3, 1), (1, 2, 1), (2, 3, 1)], 0), 6, 0),
+        refused("the diagonal before the halves", 6, filled, 4, 5),
+        refused("the first unequal halves", 6, unequal, 5, 256 + 2),
+        Known {
+            name: "a short output before a table that no tree has",
+            case: Case::Rebuild { n: 4, table: table(4, &[], 0), room: 3 },
+            due: Due::Refused(3, 0),
+        },
+    ]
+}
+
+fn listings() -> Vec<Known> {
+    let check = |name, listing: [u16; 4], due| Known { name, case: Case::Check { n: 4, listing: listing.into() }, due };
+    let standardise = |name, listing: [u16; 4], due| Known {
+        name,
+        case: Case::Standardise { n: 4, listing: listing.into(), room: 4 },
+        due,
+    };
+    let pairing = |name, question: [u16; 4], due| Known {
+        name,
+        case: Case::Pairing { n: 5, listing: P7_LISTING.into(), question: question.into() },
+        due,
+    };
+    let mut split_bytes = vec![0; 32];
+    (split_bytes[0], split_bytes[16]) = (0b11000, 0b11100);
+    vec![
+        check("P9 checked", [2, 3, 4, 1], Due::Written(0, Vec::new())),
+        standardise("P9", [2, 3, 4, 1], Due::Written(0, vec![2, 3, 1, 4])),
+        check("P10", [2, 2, 1, 4], Due::Refused(8, 1)),
+        standardise("P10 to be standardised", [2, 2, 1, 4], Due::Refused(8, 1)),
+        check("P11", [2, 4, 1, 3], Due::Refused(7, 1)),
+        standardise("P11 to be standardised", [2, 4, 1, 3], Due::Refused(7, 1)),
+        check("the last node as a child", [2, 3, 5, 1], Due::Refused(7, 2)),
+        check("leaf 0 as a child", [2, 3, 4, 0], Due::Refused(7, 3)),
+        pairing("first with second", [0, 1, 3, 4], Due::Written(0, Vec::new())),
+        pairing("first with third", [3, 0, 4, 2], Due::Written(1, Vec::new())),
+        pairing("first with fourth", [1, 3, 4, 0], Due::Written(2, Vec::new())),
+        pairing("a leaf twice", [0, 1, 3, 1], Due::Refused(9, 3)),
+        pairing("a leaf too high before a leaf twice", [0, 5, 0, 1], Due::Refused(9, 1)),
+        Known {
+            name: "splits of P7's tree",
+            case: Case::Splits { n: 5, listing: P7_LISTING.into(), room: 32 },
+            due: Due::Written(0, split_bytes),
+        },
+        Known {
+            name: "three leaves have no splits",
+            case: Case::Splits { n: 3, listing: vec![2, 1], room: 0 },
+            due: Due::Written(0, Vec::new()),
+        },
+        Known {
+            name: "three leaves have no quartet",
+            case: Case::Pairing { n: 3, listing: vec![2, 1], question: vec![0, 1, 2, 3] },
+            due: Due::Refused(9, 3),
+        },
+    ]
+}
+
+fn tables() -> Vec<Known> {
+    let (n, top) = (128, u32::MAX);
+    let gap = |name, n: usize, table, listing: &[u16], cells| Known {
+        name,
+        case: Case::Gap { n, table, listing: listing.into(), room: n * n },
+        due: Due::Cells(0, cells),
+    };
+    vec![
+        Known {
+            name: "P7's table",
+            case: Case::Table { n: 5, listing: P7_LISTING.into(), room: 25 },
+            due: Due::Written(0, wide(&p7())),
+        },
+        Known {
+            name: "the largest cell",
+            case: Case::Table { n, listing: comb(n), room: n * n },
+            due: Due::Cells(0, vec![(0, 0), (1, 7_875), (n * n - 2, 7_875), (127, 0)]),
+        },
+        gap("the zero table against P7's tree", 5, table(5, &[], 0), &P7_LISTING, vec![(1, -3), (3, 0)]),
+        gap("the lower end", n, table(n, &[], 0), &comb(n), vec![(1, -7_875), (n * n - 2, -7_875), (127, 0)]),
+        gap("the upper end", 3, table(3, &[(0, 1, top)], 0), &[1, 2], vec![(1, i64::from(top)), (2, 0)]),
+        gap("P7's table against its tree", 5, p7(), &P7_LISTING, (0..25).map(|place| (place, 0)).collect()),
+        Known {
+            name: "a broken listing before a filled diagonal",
+            case: Case::Gap { n: 3, table: vec![1; 9], listing: vec![1, 1], room: 9 },
+            due: Due::Refused(8, 1),
+        },
+    ]
+}
+
+/// Leaf counts 2 and 129 are refused by every operation, 128 is accepted.
+fn counts() -> Vec<Known> {
+    let mut known = Vec::new();
+    for n in [2, 129] {
+        let (listing, table, room) = (vec![1; 2 * (n - 2)], vec![0; n * n], 20_000);
+        let merges = vec![0; 2 * (n - 1)];
+        let cases = [
+            Case::Check { n, listing: listing.clone() },
+            Case::Standardise { n, listing: listing.clone(), room },
+            Case::Splits { n, listing: listing.clone(), room },
+            Case::Pairing { n, listing: listing.clone(), question: vec![0, 1, 2, 3] },
+            Case::Table { n, listing: listing.clone(), room },
+            Case::Gap { n, table: table.clone(), listing, room },
+            Case::Rebuild { n, table: table.clone(), room },
+            Case::Guided { n, table, merges, room },
+            Case::SheetTable { sheet: trailer(n as u16, 0), room },
+            Case::SheetName { sheet: trailer(n as u16, 0), leaf: 0 },
+            Case::RebuildSheet { sheet: trailer(n as u16, 0), room },
+        ];
+        known.extend(cases.map(|case| Known { name: "leaf counts 2 and 129", case, due: Due::Refused(1, 0) }));
+    }
+    for n in [3, 33] {
+        let case = Case::Poll { n, records: Vec::new(), room: 2_000 };
+        known.push(Known { name: "polls of 3 and 33", case, due: Due::Refused(1, 0) });
+    }
+    let case = Case::Check { n: 128, listing: comb(128) };
+    known.push(Known { name: "128 leaves", case, due: Due::Written(0, Vec::new()) });
+    known
+}
+
+fn polls() -> Vec<Known> {
+    let poll = |name, records, due| Known { name, case: Case::Poll { n: 5, records, room: 25 }, due };
+    let mut unresolved = p7_poll();
+    unresolved.iter_mut().for_each(|record| record.code = 3);
+    let mut both = p7_poll();
+    both[3] = Record { leaves: [0, 2, 3, 3], code: 4 };
+    let mut code_first = both.clone();
+    code_first[2].code = 255;
+    let mut largest: Vec<Record> =
+        quartets(32).map(|four| Record { leaves: four.map(|leaf| leaf as u8), code: 3 }).collect();
+    largest[35_959].code = 4;
+    vec![
+        Known {
+            name: "the last record of the largest poll",
+            case: Case::Poll { n: 32, records: largest, room: 1_024 },
+            due: Due::Refused(11, 35_959),
+        },
+        poll("the poll of P7's tree", p7_poll(), Due::Written(0, wide(&p7()))),
+        poll("nothing resolved", unresolved, Due::Written(0, vec![0; 25])),
+        poll("leaves before the code", both, Due::Refused(10, 3)),
+        poll("record by record", code_first, Due::Refused(11, 2)),
+    ]
+}
+
+/// Three leaves whose last name runs past the offset; with the bytes of the cells it would equal the first.
+fn name_past_offset() -> Vec<u8> {
+    let mut bytes = b"\x03xaa\x01b\x03x".to_vec();
+    let offset = bytes.len() as u32;
+    bytes.extend(b"aaaaaa");
+    bytes.extend(trailer(3, offset));
+    bytes
+}
+
+/// Three leaves with one byte between the last name and the offset.
+fn byte_left_over() -> Vec<u8> {
+    [&b"\x01a\x01b\x01c\x01"[..], &[0; 6], &trailer(3, 7)].concat()
+}
+
+fn sheets() -> Vec<Known> {
+    let rebuild = |name, room, due| Known { name, case: Case::RebuildSheet { sheet: PAPER_SHEET.into(), room }, due };
+    let name = |name, sheet, leaf, due| Known { name, case: Case::SheetName { sheet, leaf }, due };
+    let read = |name, sheet, due| Known { name, case: Case::SheetTable { sheet, room: 128 * 128 }, due };
+    let refused = |name, sheet, number, figure| read(name, sheet, Due::Refused(number, figure));
+    let (forty, forty_one) = ([b'b'; 40], [b'b'; 41]);
+    let p7_bytes = P7_LISTING.iter().flat_map(|&child| [i64::from(child), 0]).collect();
+    let one_byte_more = [&b"a"[..], &longest_sheet()].concat();
+    vec![
+        rebuild("the paper's sheet", 12, Due::Written(0, p7_bytes)),
+        rebuild("the paper's sheet and a short output", 11, Due::Refused(3, 0)),
+        read("the paper's sheet as a table", PAPER_SHEET.into(), Due::Written(5, wide(&p7()))),
+        name("the name of leaf 4", PAPER_SHEET.into(), 4, Due::Written(256 * 9 + 1, Vec::new())),
+        name("leaf 5 of five", PAPER_SHEET.into(), 5, Due::Refused(9, 0)),
+        name("a name of 40 bytes", three([b"a", &forty, b"c"]), 1, Due::Written(256 * 3 + 40, Vec::new())),
+        name("a name of 41 bytes", three([b"a", &forty_one, b"c"]), 0, Due::Refused(15, 1)),
+        name("capital and small letters differ", three([b"a", b"A", b"-."]), 2, Due::Written(256 * 5 + 2, Vec::new())),
+        read("the longest sheet", longest_sheet(), Due::Cells(128, vec![(0, 0), (128 * 128 - 1, 0)])),
+        refused("a sheet of 21,513 bytes", one_byte_more, 13, 0),
+        refused("an empty sheet", Vec::new(), 13, 0),
+        refused("seven bytes", trailer(3, 0)[1..].into(), 13, 0),
+        refused("1 before 14", trailer(2, 9), 1, 0),
+        refused("14", trailer(3, 9), 14, 0),
+        refused("an offset that would fit in 32 bits", trailer(3, u32::MAX - 5), 14, 0),
+        refused("no names", [&[0; 6][..], &trailer(3, 0)].concat(), 15, 0),
+        refused("equal names", three([b"a", b"b", b"a"]), 16, 2),
+        refused("a bad byte", three([b"a", b"b_", b"a"]), 15, 1),
+        refused("an equal name before a bad one", three([b"a", b"a", b"_"]), 16, 1),
+        refused("a name past the offset that would equal an earlier one", name_past_offset(), 15, 2),
+        refused("names that end before the offset", byte_left_over(), 15, 3),
+    ]
+}

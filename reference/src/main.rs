@@ -1,0 +1,187 @@
+//! The reference: another program, written from the paper alone, whose results are compared with the part's.
+//!
+//! `reference [N [SEED]]` compares, in this order: the paper's own cases; every tree of 3 to 6 leaves; every listing,
+//! question, list of proposals and poll of very few; and N rounds (20,000 if not given) from SEED on (1 if not given),
+//! each with one case of every kind. It also tries demand 3 on the reference's own merging, over every finished list of
+//! small tables. The first difference stops it.
+
+mod cases;
+mod chance;
+mod draw;
+mod every;
+mod known;
+mod merge;
+mod part;
+mod poll;
+mod refuse;
+mod sheet;
+mod small;
+mod table;
+mod tree;
+mod watch;
+
+use cases::{Case, Kind};
+use chance::Chance;
+use every::Every;
+use known::known_cases;
+use std::collections::BTreeMap;
+use std::process::exit;
+use std::time::Instant;
+use tree::Tree;
+
+/// How many rounds are run when no number is given.
+const ROUNDS: u64 = 20_000;
+
+/// How many tables demand 3 is tried on besides the listed ones.
+const DRAWN_TABLES: usize = 5_000;
+
+/// From this many rounds on, every refusal of every operation has to have occurred.
+const ROUNDS_FOR_ALL: u64 = 2_000;
+
+/// How many bytes of a case are printed.
+const SHOWN: usize = 6_000;
+
+fn main() {
+    let arguments: Vec<String> = std::env::args().skip(1).collect();
+    let is_work = arguments.first().is_some_and(|first| first == watch::WORK);
+    let numbers = &arguments[usize::from(is_work)..];
+    let number = |place: usize, otherwise: u64| match numbers.get(place) {
+        None => Some(otherwise),
+        Some(text) => text.parse().ok(),
+    };
+    let (Some(rounds), Some(seed)) = (number(0, ROUNDS), number(1, 1)) else {
+        eprintln!("usage: reference [N [SEED]]");
+        exit(2);
+    };
+    if !is_work {
+        exit(watch::watch(rounds, seed));
+    }
+    let mut comparison = Comparison { every: Every::counted(), noted: numbers.len() > 2, replies: BTreeMap::new() };
+    if let Err(difference) = comparison.run(rounds, seed) {
+        println!("difference: {difference}");
+        exit(1);
+    }
+}
+
+/// The comparison so far.
+struct Comparison {
+    every: Every,
+    /// Is every case noted before its call?
+    noted: bool,
+    /// How often each kind was answered by each number.
+    replies: BTreeMap<(&'static str, u64), usize>,
+}
+
+impl Comparison {
+    fn run(&mut self, rounds: u64, seed: u64) -> Result<(), String> {
+        let start = Instant::now();
+        self.known()?;
+        self.every_tree()?;
+        self.every_input()?;
+        if !self.noted {
+            let tried = self.every.try_demand_3(DRAWN_TABLES)?;
+            println!("demand 3, every finished list: {} tables, {} states of merging", tried.tables, tried.states);
+        }
+        for seed in seed..seed.saturating_add(rounds) {
+            watch::note(&format!("seed {seed}"));
+            for kind in Kind::ALL {
+                let mut chance = Chance::new(seed, kind as u64);
+                let case = draw::any_case(kind, &mut chance);
+                self.put(&case, &format!("seed {seed}"), &mut chance)
+                    .map_err(|difference| format!("{difference}\nrepeat with: reference 1 {seed}"))?;
+            }
+        }
+        self.summary(rounds, seed, start)
+    }
+
+    /// Puts one case, and counts the number it is answered by.
+    fn put(&mut self, case: &Case, origin: &str, chance: &mut Chance) -> Result<cases::Outcome, String> {
+        let name = case.kind().name();
+        if self.noted {
+            watch::note(&format!("{origin}, {name}: {}", shown(case)));
+        }
+        let outcome = case
+            .compare(&self.every, chance)
+            .map_err(|difference| format!("{origin}, {name}: {difference}\ncase: {}", shown(case)))?;
+        *self.replies.entry((name, outcome.reply & 0xFF)).or_default() += 1;
+        Ok(outcome)
+    }
+
+    /// The paper's own cases.
+    fn known(&mut self) -> Result<(), String> {
+        let known = known_cases();
+        println!("the paper's own cases: {}", known.len());
+        for (place, known) in known.iter().enumerate() {
+            watch::note(&format!("the known case {}", known.name));
+            let outcome = self.put(&known.case, known.name, &mut Chance::new(0, place as u64))?;
+            if !known.due.agrees(&outcome) {
+                return Err(format!("{}: the paper says otherwise than {outcome:?}", known.name));
+            }
+        }
+        Ok(())
+    }
+
+    /// Every tree of 3 to 6 leaves in every operation.
+    fn every_tree(&mut self) -> Result<(), String> {
+        for n in 3..=6 {
+            let trees = Tree::every(n);
+            println!("every tree of {n} leaves, in every operation: {}", trees.len());
+            for (place, tree) in trees.iter().enumerate() {
+                let origin = format!("tree {place} of {n} leaves");
+                watch::note(&origin);
+                let mut chance = Chance::new(n as u64, place as u64);
+                for case in small::cases_of_tree(tree, &mut chance) {
+                    self.put(&case, &origin, &mut chance)?;
+                }
+            }
+        }
+        Ok(())
+    }
+
+    /// Every listing, question, list of proposals and poll of few leaves, the bad ones too.
+    fn every_input(&mut self) -> Result<(), String> {
+        self.put_all("every listing of few leaves", small::every_listing())?;
+        self.put_all("every question of few leaves", small::every_question())?;
+        self.put_all("every list of proposals of few leaves", small::every_proposals())?;
+        self.put_all("every poll of few leaves", small::every_poll())
+    }
+
+    fn put_all(&mut self, origin: &str, cases: impl Iterator<Item = Case>) -> Result<(), String> {
+        watch::note(origin);
+        let mut count = 0;
+        for case in cases {
+            self.put(&case, origin, &mut Chance::new(0, count))?;
+            count += 1;
+        }
+        println!("{origin}: {count}");
+        Ok(())
+    }
+
+    /// How many cases of each kind were compared, and how they were answered.
+    fn summary(&self, rounds: u64, seed: u64, start: Instant) -> Result<(), String> {
+        let mut totals = Vec::new();
+        for kind in Kind::ALL {
+            let count = |number: u64| self.replies.get(&(kind.name(), number)).copied().unwrap_or(0);
+            let refused: Vec<String> = kind.refusals().iter().map(|&no| format!("{no}: {}", count(no))).collect();
+            println!("{:>14}  accepted: {}, refused {}", kind.name(), count(0), refused.join(", "));
+            if rounds >= ROUNDS_FOR_ALL && kind.refusals().iter().chain(&[0]).any(|&number| count(number) == 0) {
+                return Err(format!("{}: one of its answers never occurred", kind.name()));
+            }
+            let total: usize = kind.refusals().iter().chain(&[0]).map(|&number| count(number)).sum();
+            totals.push(format!("{} {total}", kind.name()));
+        }
+        println!("rounds: {rounds} from seed {seed}, {:.1} seconds", start.elapsed().as_secs_f64());
+        println!("compared without a difference: {}", totals.join(", "));
+        Ok(())
+    }
+}
+
+/// A case in print, cut where it is very long; the seed has all of it.
+fn shown(case: &Case) -> String {
+    let mut text = format!("{case:?}");
+    if text.len() > SHOWN {
+        text.truncate(SHOWN);
+        text.push_str(" …");
+    }
+    text
+}

@@ -1,0 +1,347 @@
+//! The part: its C entries, and the buffers lent to them.
+//!
+//! Every buffer stands between two guards. After a call its whole memory, guards included, is compared with what it
+//! has to hold, the inputs' too. This is the one file with unsafe code.
+//!
+//! With `--cfg own` the entries are made of the reference's own operations instead. A driver built so compares the
+//! reference with itself; a library built so stands in for the part, and with a fault put in it has to be found out.
+
+use crate::chance::Chance;
+use crate::poll::Record;
+use std::fmt::Debug;
+use std::ops::Range;
+
+#[cfg(own)]
+use self::own::*;
+
+#[cfg(not(own))]
+unsafe extern "C" {
+    fn quartree_check(n: usize, listing: *const u16, len: usize) -> u64;
+    fn quartree_standardise(n: usize, listing: *const u16, len: usize, out: *mut u16, room: usize) -> u64;
+    fn quartree_splits(n: usize, listing: *const u16, len: usize, out: *mut u8, room: usize) -> u64;
+    fn quartree_pairing(n: usize, listing: *const u16, len: usize, question: *const u16, question_len: usize) -> u64;
+    fn quartree_table(n: usize, listing: *const u16, len: usize, out: *mut u32, room: usize) -> u64;
+    fn quartree_gap(
+        n: usize,
+        table: *const u32,
+        cells: usize,
+        listing: *const u16,
+        len: usize,
+        out: *mut i64,
+        room: usize,
+    ) -> u64;
+    fn quartree_rebuild(n: usize, table: *const u32, cells: usize, out: *mut u16, room: usize) -> u64;
+    fn quartree_rebuild_guided(
+        n: usize,
+        table: *const u32,
+        cells: usize,
+        merges: *const u16,
+        len: usize,
+        out: *mut u16,
+        room: usize,
+    ) -> u64;
+    fn quartree_poll(n: usize, records: *const Record, count: usize, out: *mut u32, room: usize) -> u64;
+    fn quartree_sheet_table(sheet: *const u8, len: usize, out: *mut u32, room: usize) -> u64;
+    fn quartree_sheet_name(sheet: *const u8, len: usize, leaf: usize) -> u64;
+    fn quartree_rebuild_sheet(sheet: *const u8, sheet_len: usize, listing: *mut u8, listing_len: usize) -> u32;
+}
+
+/// How many cells a guard has at least.
+const GUARD: usize = 64;
+
+/// A kind of cell that buffers are made of.
+pub trait Cell: Copy + Debug + PartialEq {
+    fn any(chance: &mut Chance) -> Self;
+}
+
+impl Cell for u8 {
+    fn any(chance: &mut Chance) -> u8 {
+        chance.number() as u8
+    }
+}
+
+impl Cell for u16 {
+    fn any(chance: &mut Chance) -> u16 {
+        chance.number() as u16
+    }
+}
+
+impl Cell for u32 {
+    fn any(chance: &mut Chance) -> u32 {
+        chance.number() as u32
+    }
+}
+
+impl Cell for i64 {
+    fn any(chance: &mut Chance) -> i64 {
+        chance.number() as i64
+    }
+}
+
+impl Cell for Record {
+    fn any(chance: &mut Chance) -> Record {
+        Record { leaves: (chance.number() as u32).to_le_bytes(), code: chance.number() as u8 }
+    }
+}
+
+/// A buffer lent to the part, between its guards.
+pub struct Lent<T> {
+    name: &'static str,
+    /// Where the buffer is in the memory; the guards are the rest.
+    place: Range<usize>,
+    memory: Vec<T>,
+    /// The memory as it was lent.
+    before: Vec<T>,
+}
+
+impl<T: Cell> Lent<T> {
+    /// An input: these cells.
+    pub fn input(name: &'static str, cells: &[T], chance: &mut Chance) -> Lent<T> {
+        let first = GUARD + chance.below(8);
+        let mut memory: Vec<T> = (0..first + GUARD).map(|_| T::any(chance)).collect();
+        memory.splice(first..first, cells.iter().copied());
+        Lent { name, place: first..first + cells.len(), before: memory.clone(), memory }
+    }
+
+    /// An output: so many cells, of any content.
+    pub fn output(name: &'static str, room: usize, chance: &mut Chance) -> Lent<T> {
+        let cells: Vec<T> = (0..room).map(|_| T::any(chance)).collect();
+        Lent::input(name, &cells, chance)
+    }
+
+    fn len(&self) -> usize {
+        self.place.len()
+    }
+
+    fn pointer(&mut self) -> *mut T {
+        self.memory[self.place.start..].as_mut_ptr()
+    }
+
+    /// The buffer has to hold what it held, but for these cells at its beginning; nothing outside it has changed.
+    pub fn holds(&self, written: &[T]) -> Result<(), String> {
+        let mut due = self.before.clone();
+        let first = self.place.start;
+        due[first..first + written.len()].copy_from_slice(written);
+        let Some(place) = (0..due.len()).find(|&place| due[place] != self.memory[place]) else { return Ok(()) };
+        Err(format!(
+            "{}, {} of {} cells to be written: cell {} holds {:?}; due is {:?}",
+            self.name,
+            written.len(),
+            self.len(),
+            place as i64 - first as i64,
+            self.memory[place],
+            due[place]
+        ))
+    }
+
+    /// Nothing of it has changed.
+    pub fn unchanged(&self) -> Result<(), String> {
+        self.holds(&[])
+    }
+}
+
+pub fn check(n: usize, listing: &mut Lent<u16>) -> u64 {
+    unsafe { quartree_check(n, listing.pointer(), listing.len()) }
+}
+
+pub fn standardise(n: usize, listing: &mut Lent<u16>, out: &mut Lent<u16>) -> u64 {
+    unsafe { quartree_standardise(n, listing.pointer(), listing.len(), out.pointer(), out.len()) }
+}
+
+pub fn splits(n: usize, listing: &mut Lent<u16>, out: &mut Lent<u8>) -> u64 {
+    unsafe { quartree_splits(n, listing.pointer(), listing.len(), out.pointer(), out.len()) }
+}
+
+pub fn pairing(n: usize, listing: &mut Lent<u16>, question: &mut Lent<u16>) -> u64 {
+    unsafe { quartree_pairing(n, listing.pointer(), listing.len(), question.pointer(), question.len()) }
+}
+
+pub fn table(n: usize, listing: &mut Lent<u16>, out: &mut Lent<u32>) -> u64 {
+    unsafe { quartree_table(n, listing.pointer(), listing.len(), out.pointer(), out.len()) }
+}
+
+pub fn gap(n: usize, table: &mut Lent<u32>, listing: &mut Lent<u16>, out: &mut Lent<i64>) -> u64 {
+    let (cells, children) = (table.len(), listing.len());
+    unsafe { quartree_gap(n, table.pointer(), cells, listing.pointer(), children, out.pointer(), out.len()) }
+}
+
+pub fn rebuild(n: usize, table: &mut Lent<u32>, out: &mut Lent<u16>) -> u64 {
+    unsafe { quartree_rebuild(n, table.pointer(), table.len(), out.pointer(), out.len()) }
+}
+
+pub fn rebuild_guided(n: usize, table: &mut Lent<u32>, merges: &mut Lent<u16>, out: &mut Lent<u16>) -> u64 {
+    let (cells, leaves) = (table.len(), merges.len());
+    unsafe { quartree_rebuild_guided(n, table.pointer(), cells, merges.pointer(), leaves, out.pointer(), out.len()) }
+}
+
+pub fn poll(n: usize, records: &mut Lent<Record>, out: &mut Lent<u32>) -> u64 {
+    unsafe { quartree_poll(n, records.pointer(), records.len(), out.pointer(), out.len()) }
+}
+
+pub fn sheet_table(sheet: &mut Lent<u8>, out: &mut Lent<u32>) -> u64 {
+    unsafe { quartree_sheet_table(sheet.pointer(), sheet.len(), out.pointer(), out.len()) }
+}
+
+pub fn sheet_name(sheet: &mut Lent<u8>, leaf: usize) -> u64 {
+    unsafe { quartree_sheet_name(sheet.pointer(), sheet.len(), leaf) }
+}
+
+pub fn rebuild_sheet(sheet: &mut Lent<u8>, listing: &mut Lent<u8>) -> u64 {
+    u64::from(unsafe { quartree_rebuild_sheet(sheet.pointer(), sheet.len(), listing.pointer(), listing.len()) })
+}
+
+/// The entries made of the reference's own operations.
+#[cfg(own)]
+mod own {
+    use crate::chance::Chance;
+    use crate::poll::Record;
+    use crate::refuse::{reply, Answer};
+    use crate::{merge, poll, sheet, table, tree};
+    use std::slice::{from_raw_parts, from_raw_parts_mut};
+
+    /// Writes an accepted result to the beginning of the output.
+    unsafe fn give<T: Copy>(answer: Answer<Vec<T>>, out: *mut T, room: usize) -> u64 {
+        reply(answer.map(|result| {
+            let out = unsafe { from_raw_parts_mut(out, room) };
+            out[..result.len()].copy_from_slice(&result);
+            0
+        }))
+    }
+
+    fn own_choice() -> Chance {
+        Chance::new(0, 0)
+    }
+
+    #[no_mangle]
+    pub unsafe extern "C" fn quartree_check(n: usize, listing: *const u16, len: usize) -> u64 {
+        let listing = unsafe { from_raw_parts(listing, len) };
+        reply(tree::check(n, listing).map(|()| 0))
+    }
+
+    #[no_mangle]
+    pub unsafe extern "C" fn quartree_standardise(
+        n: usize,
+        listing: *const u16,
+        len: usize,
+        out: *mut u16,
+        room: usize,
+    ) -> u64 {
+        let listing = unsafe { from_raw_parts(listing, len) };
+        unsafe { give(tree::standardise(n, listing, room), out, room) }
+    }
+
+    #[no_mangle]
+    pub unsafe extern "C" fn quartree_splits(
+        n: usize,
+        listing: *const u16,
+        len: usize,
+        out: *mut u8,
+        room: usize,
+    ) -> u64 {
+        let listing = unsafe { from_raw_parts(listing, len) };
+        unsafe { give(tree::splits(n, listing, room), out, room) }
+    }
+
+    #[no_mangle]
+    pub unsafe extern "C" fn quartree_pairing(
+        n: usize,
+        listing: *const u16,
+        len: usize,
+        question: *const u16,
+        question_len: usize,
+    ) -> u64 {
+        let (listing, question) = unsafe { (from_raw_parts(listing, len), from_raw_parts(question, question_len)) };
+        reply(tree::pairing(n, listing, question).map(u64::from))
+    }
+
+    #[no_mangle]
+    pub unsafe extern "C" fn quartree_table(
+        n: usize,
+        listing: *const u16,
+        len: usize,
+        out: *mut u32,
+        room: usize,
+    ) -> u64 {
+        let listing = unsafe { from_raw_parts(listing, len) };
+        unsafe { give(table::table(n, listing, room), out, room) }
+    }
+
+    #[no_mangle]
+    pub unsafe extern "C" fn quartree_gap(
+        n: usize,
+        table: *const u32,
+        cells: usize,
+        listing: *const u16,
+        len: usize,
+        out: *mut i64,
+        room: usize,
+    ) -> u64 {
+        let (table, listing) = unsafe { (from_raw_parts(table, cells), from_raw_parts(listing, len)) };
+        unsafe { give(table::gap(n, table, listing, room), out, room) }
+    }
+
+    #[no_mangle]
+    pub unsafe extern "C" fn quartree_rebuild(
+        n: usize,
+        table: *const u32,
+        cells: usize,
+        out: *mut u16,
+        room: usize,
+    ) -> u64 {
+        let table = unsafe { from_raw_parts(table, cells) };
+        unsafe { give(merge::rebuild(n, table, room, &mut own_choice()), out, room) }
+    }
+
+    #[no_mangle]
+    pub unsafe extern "C" fn quartree_rebuild_guided(
+        n: usize,
+        table: *const u32,
+        cells: usize,
+        merges: *const u16,
+        len: usize,
+        out: *mut u16,
+        room: usize,
+    ) -> u64 {
+        let (table, merges) = unsafe { (from_raw_parts(table, cells), from_raw_parts(merges, len)) };
+        unsafe { give(merge::rebuild_guided(n, table, merges, room), out, room) }
+    }
+
+    #[no_mangle]
+    pub unsafe extern "C" fn quartree_poll(
+        n: usize,
+        records: *const Record,
+        count: usize,
+        out: *mut u32,
+        room: usize,
+    ) -> u64 {
+        let records = unsafe { from_raw_parts(records, count) };
+        unsafe { give(poll::poll(n, records, room), out, room) }
+    }
+
+    #[no_mangle]
+    pub unsafe extern "C" fn quartree_sheet_table(sheet: *const u8, len: usize, out: *mut u32, room: usize) -> u64 {
+        let sheet = unsafe { from_raw_parts(sheet, len) };
+        match sheet::sheet_table(sheet, room) {
+            Ok((n, table)) => unsafe { give(Ok(table), out, room) | (n as u64) << 8 },
+            Err(refusal) => reply(Err(refusal)),
+        }
+    }
+
+    #[no_mangle]
+    pub unsafe extern "C" fn quartree_sheet_name(sheet: *const u8, len: usize, leaf: usize) -> u64 {
+        let sheet = unsafe { from_raw_parts(sheet, len) };
+        reply(sheet::sheet_name(sheet, leaf).map(|name| (256 * name.start + name.len()) as u64))
+    }
+
+    #[no_mangle]
+    pub unsafe extern "C" fn quartree_rebuild_sheet(
+        sheet: *const u8,
+        sheet_len: usize,
+        listing: *mut u8,
+        listing_len: usize,
+    ) -> u32 {
+        let sheet = unsafe { from_raw_parts(sheet, sheet_len) };
+        let answer = sheet::rebuild_sheet(sheet, listing_len, &mut own_choice());
+        unsafe { give(answer, listing, listing_len) as u8 }.into()
+    }
+}
