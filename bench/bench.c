@@ -1,20 +1,27 @@
-/* Measures the part against plain C of the same algorithm, against counting quartets directly and against textbook
-   neighbour joining. Each figure is a ratio of medians of interleaved rounds in this one run; no bare time is
-   printed. */
+/* Measures every call of the part against plain C of the same algorithm, and against the floor (its buffers read and
+   written once); the rebuilds also against textbook neighbour joining, the table against counting quartets directly.
+   Each figure is a ratio of medians of rounds that take turns in this one run; no bare time is printed. With a file
+   name it draws the growth of the calls with the number of leaves there, as an SVG. */
 #define _POSIX_C_SOURCE 200809L
 #include "../include/quartree.h"
 #include "plain.h"
+#include <math.h>
 #include <stdio.h>
 #include <stdlib.h>
 #include <string.h>
 #include <time.h>
 
-enum { MOST = 128, ROUNDS = 41 };
+enum { MOST = 128, ROUNDS = 41, SHAPES = 3, COUNTS = 4 };
+static const size_t counts[COUNTS] = {16, 32, 64, 128};
+static const char *const shapes[SHAPES] = {"comb", "balanced", "random"};
 
-static uint16_t listing[2 * MOST], standard[2 * MOST], merges[2 * MOST], joined[2 * MOST];
+static size_t n;
+static uint16_t listing[2 * MOST], standard[2 * MOST], merges[2 * MOST], joined[2 * MOST], question[4];
 static uint32_t table[MOST * MOST], cells[MOST * MOST];
 static int64_t gaps[MOST * MOST];
-static size_t n;
+static uint8_t sets[16 * MOST], bytes[4 * MOST], sheet[QUARTREE_SHEET_MOST_BYTES];
+static struct quartree_record records[QUARTREE_POLL_RECORDS(32)];
+static size_t sheet_len;
 static volatile uint64_t sink;
 
 static double now(void)
@@ -29,6 +36,8 @@ static void fail(const char *what)
     fprintf(stderr, "bench: %s\n", what);
     exit(1);
 }
+
+/* ---- Inputs: trees, their tables, merges, sheets and polls. ---- */
 
 /* A pseudo-random listing of n leaves: each row joins two items that are not yet used. */
 static void random_listing(uint32_t seed)
@@ -86,36 +95,182 @@ static void merges_of_rows(void)
     merges[2 * (n - 2) + 1] = 1;
 }
 
-static void ours_standardise(void) { sink += quartree_standardise(n, listing, 2 * (n - 2), standard, 2 * (n - 2)); }
-static void their_standardise(void)
+/* A sheet of the table, with names of four bytes. */
+static void sheet_of_table(void)
 {
-    sink += (uint64_t)plain_check(n, listing);
-    plain_standardise(n, listing, standard);
-}
-static void ours_table(void) { sink += quartree_table(n, listing, 2 * (n - 2), table, n * n); }
-static void their_table(void)
-{
-    sink += (uint64_t)plain_check(n, listing);
-    plain_table(n, listing, table);
-}
-static void ours_gap(void) { sink += quartree_gap(n, cells, n * n, listing, 2 * (n - 2), gaps, n * n); }
-static void their_gap(void)
-{
-    sink += (uint64_t)plain_check(n, listing);
-    sink += (uint64_t)plain_gap(n, cells, listing, gaps);
+    size_t at = 0;
+    for (size_t i = 0; i < n; i++)
+        at += (size_t)snprintf((char *)sheet + at, 8, "%cs%03zu", 4, i);
+    const uint8_t trailer[8] = {(uint8_t)n, 0, (uint8_t)at, (uint8_t)(at >> 8), 0, 0, 0x51, 0x54};
+    for (size_t i = 0; i < n; i++)
+        for (size_t j = i + 1; j < n; j++) {
+            sheet[at++] = (uint8_t)cells[i * n + j];
+            sheet[at++] = (uint8_t)(cells[i * n + j] >> 8);
+        }
+    memcpy(sheet + at, trailer, sizeof trailer);
+    sheet_len = at + sizeof trailer;
 }
 
-static void ours_rebuild(void) { sink += quartree_rebuild(n, cells, n * n, standard, 2 * (n - 2)); }
-static void their_rebuild(void) { sink += (uint64_t)plain_rebuild(n, cells, standard); }
-static void ours_guided(void)
+/* The poll of the tree's own pairings. */
+static void poll_of_tree(void)
+{
+    size_t k = 0;
+    for (size_t a = 0; a < n; a++)
+        for (size_t b = a + 1; b < n; b++)
+            for (size_t c = b + 1; c < n; c++)
+                for (size_t d = c + 1; d < n; d++) {
+                    const uint16_t q[4] = {(uint16_t)a, (uint16_t)b, (uint16_t)c, (uint16_t)d};
+                    const uint8_t code = (uint8_t)plain_pairing(n, listing, q);
+                    records[k++] = (struct quartree_record){(uint8_t)a, (uint8_t)b, (uint8_t)c, (uint8_t)d, code};
+                }
+}
+
+/* A tree of this shape, and all that the calls take of it; what the part and plain C make of them is the same. */
+static void make(int shape)
+{
+    uint16_t expected[2 * MOST];
+    const size_t rows = 2 * (n - 2), size = rows * sizeof *standard;
+    if (shape == 0)
+        comb();
+    else if (shape == 1)
+        balanced();
+    else
+        random_listing((uint32_t)n);
+    merges_of_rows();
+    question[0] = 0;
+    question[1] = (uint16_t)(n / 3);
+    question[2] = (uint16_t)(n / 2);
+    question[3] = (uint16_t)(n - 1);
+    if (quartree_table(n, listing, rows, cells, n * n) != 0
+        || quartree_standardise(n, listing, rows, expected, rows) != 0)
+        fail("a listing was refused");
+    plain_table(n, listing, table);
+    if (memcmp(table, cells, n * n * sizeof *cells) != 0)
+        fail("plain C makes another table");
+    if (quartree_rebuild(n, cells, n * n, standard, rows) != 0 || memcmp(standard, expected, size) != 0)
+        fail("a tree was not rebuilt");
+    memset(standard, 0, sizeof standard);
+    if (quartree_rebuild_guided(n, cells, n * n, merges, 2 * (n - 1), standard, rows) != 0
+        || memcmp(standard, expected, size) != 0)
+        fail("a guided tree was not rebuilt");
+    memset(standard, 0, sizeof standard);
+    if (plain_rebuild(n, cells, standard) != 0 || memcmp(standard, expected, size) != 0)
+        fail("plain C rebuilds another tree");
+    sheet_of_table();
+    if (quartree_sheet_table(sheet, sheet_len, table, n * n) != 256 * n
+        || memcmp(table, cells, n * n * sizeof *cells) != 0)
+        fail("a sheet was not read");
+    if (n <= 32) {
+        poll_of_tree();
+        if (quartree_poll(n, records, QUARTREE_POLL_RECORDS(n), table, n * n) != 0
+            || memcmp(table, cells, n * n * sizeof *cells) != 0)
+            fail("a poll of a tree's own pairings has another table");
+    }
+}
+
+/* ---- The calls: ours, plain C, and the floor. ---- */
+
+static uint64_t read_once(const void *from, size_t size)
+{
+    uint64_t sum = 0, word;
+    for (size_t k = 0; k + sizeof word <= size; k += sizeof word) {
+        memcpy(&word, (const char *)from + k, sizeof word);
+        sum += word;
+    }
+    return sum;
+}
+static void floor_of(const void *from, size_t size, void *to, size_t room)
+{
+    sink += read_once(from, size);
+    if (to != NULL)
+        memset(to, (int)(sink & 1), room);
+}
+
+static void check(void) { sink += quartree_check(n, listing, 2 * (n - 2)); }
+static void check_plain(void) { sink += (uint64_t)plain_check(n, listing); }
+static void check_floor(void) { floor_of(listing, 4 * (n - 2), NULL, 0); }
+static void standardise(void) { sink += quartree_standardise(n, listing, 2 * (n - 2), standard, 2 * (n - 2)); }
+static void standardise_plain(void)
+{
+    check_plain();
+    plain_standardise(n, listing, standard);
+}
+static void standardise_floor(void) { floor_of(listing, 4 * (n - 2), standard, 4 * (n - 2)); }
+static void splits(void) { sink += quartree_splits(n, listing, 2 * (n - 2), sets, 16 * (n - 3)); }
+static void splits_plain(void)
+{
+    check_plain();
+    plain_splits(n, listing, sets);
+}
+static void splits_floor(void) { floor_of(listing, 4 * (n - 2), sets, 16 * (n - 3)); }
+static void pairing(void) { sink += quartree_pairing(n, listing, 2 * (n - 2), question, 4); }
+static void pairing_plain(void)
+{
+    check_plain();
+    sink += (uint64_t)plain_pairing(n, listing, question);
+}
+static void table_ours(void) { sink += quartree_table(n, listing, 2 * (n - 2), table, n * n); }
+static void table_plain(void)
+{
+    check_plain();
+    plain_table(n, listing, table);
+}
+static void table_floor(void) { floor_of(listing, 4 * (n - 2), table, n * n * sizeof *table); }
+static void gap(void) { sink += quartree_gap(n, cells, n * n, listing, 2 * (n - 2), gaps, n * n); }
+static void gap_plain(void)
+{
+    check_plain();
+    sink += (uint64_t)plain_gap(n, cells, listing, gaps);
+}
+static void gap_floor(void) { floor_of(cells, n * n * sizeof *cells, gaps, n * n * sizeof *gaps); }
+static void rebuild(void) { sink += quartree_rebuild(n, cells, n * n, standard, 2 * (n - 2)); }
+static void rebuild_plain(void) { sink += (uint64_t)plain_rebuild(n, cells, standard); }
+static void rebuild_floor(void) { floor_of(cells, n * n * sizeof *cells, standard, 4 * (n - 2)); }
+static void guided(void)
 {
     sink += quartree_rebuild_guided(n, cells, n * n, merges, 2 * (n - 1), standard, 2 * (n - 2));
 }
+static void guided_plain(void) { sink += (uint64_t)plain_guided(n, cells, merges, standard); }
+static void poll(void) { sink += quartree_poll(n, records, QUARTREE_POLL_RECORDS(n), table, n * n); }
+static void poll_plain(void) { sink += (uint64_t)plain_poll(n, &records[0].a, table); }
+static void poll_floor(void) { floor_of(records, 5 * QUARTREE_POLL_RECORDS(n), table, n * n * sizeof *table); }
+static void sheet_table(void) { sink += quartree_sheet_table(sheet, sheet_len, table, n * n); }
+static void sheet_table_plain(void) { sink += (uint64_t)plain_sheet_table(sheet, sheet_len, table); }
+static void sheet_table_floor(void) { floor_of(sheet, sheet_len, table, n * n * sizeof *table); }
+static void sheet_name(void) { sink += quartree_sheet_name(sheet, sheet_len, n - 1); }
+static void sheet_name_plain(void) { sink += plain_sheet_name(sheet, sheet_len, n - 1); }
+static void sheet_name_floor(void) { floor_of(sheet, sheet_len, NULL, 0); }
+static void rebuild_sheet(void) { sink += quartree_rebuild_sheet(sheet, sheet_len, bytes, 4 * (n - 2)); }
+static void rebuild_sheet_plain(void) { sink += (uint64_t)plain_rebuild_sheet(sheet, sheet_len, bytes); }
+static void rebuild_sheet_floor(void) { floor_of(sheet, sheet_len, bytes, 4 * (n - 2)); }
 static void joining(void)
 {
     neighbour_joining(n, cells, joined);
     sink += joined[0];
 }
+
+enum { CALLS = 12 };
+static const struct {
+    const char *name;
+    size_t most; /* leaves */
+    int times;   /* calls a round */
+    void (*ours)(void), (*plain)(void), (*floor)(void);
+} calls[CALLS] = {
+    {"check", 128, 400, check, check_plain, check_floor},
+    {"standardise", 128, 400, standardise, standardise_plain, standardise_floor},
+    {"splits", 128, 200, splits, splits_plain, splits_floor},
+    {"pairing", 128, 400, pairing, pairing_plain, check_floor},
+    {"table", 128, 40, table_ours, table_plain, table_floor},
+    {"gap", 128, 40, gap, gap_plain, gap_floor},
+    {"rebuild", 128, 40, rebuild, rebuild_plain, rebuild_floor},
+    {"guided", 128, 40, guided, guided_plain, rebuild_floor},
+    {"poll", 32, 20, poll, poll_plain, poll_floor},
+    {"sheet_table", 128, 20, sheet_table, sheet_table_plain, sheet_table_floor},
+    {"sheet_name", 128, 20, sheet_name, sheet_name_plain, sheet_name_floor},
+    {"rebuild_sheet", 128, 20, rebuild_sheet, rebuild_sheet_plain, rebuild_sheet_floor},
+};
+
+/* ---- Measuring. ---- */
 
 static int by_value(const void *a, const void *b)
 {
@@ -123,24 +278,29 @@ static int by_value(const void *a, const void *b)
     return (x > y) - (x < y);
 }
 
+static double median(double *t)
+{
+    qsort(t, ROUNDS, sizeof *t, by_value);
+    return t[ROUNDS / 2];
+}
+
+static double timed(void (*call)(void), int times)
+{
+    double t0 = now();
+    for (int k = 0; k < times; k++)
+        call();
+    return (now() - t0) / times;
+}
+
 /* The median time of `a` over that of `b`, in rounds that take turns. */
 static double ratio(void (*a)(void), void (*b)(void), int times)
 {
     double ta[ROUNDS], tb[ROUNDS];
     for (int r = 0; r < ROUNDS; r++) {
-        double t0 = now();
-        for (int k = 0; k < times; k++)
-            a();
-        double t1 = now();
-        for (int k = 0; k < times; k++)
-            b();
-        double t2 = now();
-        ta[r] = t1 - t0;
-        tb[r] = t2 - t1;
+        ta[r] = timed(a, times);
+        tb[r] = timed(b, times);
     }
-    qsort(ta, ROUNDS, sizeof *ta, by_value);
-    qsort(tb, ROUNDS, sizeof *tb, by_value);
-    return ta[ROUNDS / 2] / tb[ROUNDS / 2];
+    return median(ta) / median(tb);
 }
 
 /* The direct count over our table: one round of each, since the first takes long. */
@@ -148,28 +308,16 @@ static double direct_ratio(void)
 {
     double t0 = now();
     direct_table(n, listing, cells);
-    double t1 = now();
-    for (int k = 0; k < 200; k++)
-        ours_table();
-    double t2 = now();
+    double direct = now() - t0, ours = timed(table_ours, 200);
     if (memcmp(cells, table, n * n * sizeof *cells) != 0)
         fail("the direct count differs from the table");
-    return (t1 - t0) / ((t2 - t1) / 200);
+    return direct / ours;
 }
 
 static double least(double x, double y) { return x < y ? x : y; }
 
 /* The least of three times of our rebuild. */
-static double rebuild_time(void)
-{
-    double best = 1e300;
-    for (int r = 0; r < 3; r++) {
-        double t0 = now();
-        ours_rebuild();
-        best = least(best, now() - t0);
-    }
-    return best;
-}
+static double rebuild_time(void) { return least(timed(rebuild, 1), least(timed(rebuild, 1), timed(rebuild, 1))); }
 
 /* The slowest table with one cell, and its mirror, one too large, over the table itself. */
 static double damaged_ratio(void)
@@ -190,97 +338,115 @@ static double damaged_ratio(void)
     return worst / least(accepted, rebuild_time());
 }
 
-/* The tables that the rebuilds take. */
-static void table_of_listing(void)
+/* Each call's median time at every leaf count over that at the smallest, of random trees. */
+static void growth(double grown[CALLS][COUNTS])
 {
-    uint16_t expected[2 * MOST];
-    merges_of_rows();
-    if (quartree_table(n, listing, 2 * (n - 2), cells, n * n) != 0
-        || quartree_standardise(n, listing, 2 * (n - 2), expected, 2 * (n - 2)) != 0)
-        fail("a listing was refused");
-    if (quartree_rebuild(n, cells, n * n, standard, 2 * (n - 2)) != 0
-        || memcmp(standard, expected, 2 * (n - 2) * sizeof *standard) != 0)
-        fail("a tree was not rebuilt");
-    memset(standard, 0, sizeof standard);
-    if (quartree_rebuild_guided(n, cells, n * n, merges, 2 * (n - 1), standard, 2 * (n - 2)) != 0
-        || memcmp(standard, expected, 2 * (n - 2) * sizeof *standard) != 0)
-        fail("a guided tree was not rebuilt");
-    memset(standard, 0, sizeof standard);
-    if (plain_rebuild(n, cells, standard) != 0 || memcmp(standard, expected, 2 * (n - 2) * sizeof *standard) != 0)
-        fail("plain C rebuilds another tree");
+    static double t[CALLS][COUNTS][ROUNDS];
+    for (int r = 0; r < ROUNDS; r++)
+        for (int c = 0; c < COUNTS; c++) {
+            n = counts[c];
+            make(2);
+            for (int k = 0; k < CALLS; k++)
+                if (n <= calls[k].most)
+                    t[k][c][r] = timed(calls[k].ours, calls[k].times);
+        }
+    for (int k = 0; k < CALLS; k++)
+        for (int c = 0; c < COUNTS; c++)
+            grown[k][c] = counts[c] <= calls[k].most ? median(t[k][c]) : 0;
+    for (int k = 0; k < CALLS; k++)
+        for (int c = COUNTS - 1; c >= 0; c--)
+            grown[k][c] /= grown[k][0];
 }
 
-static void make(int shape)
-{
-    if (shape == 0)
-        comb();
-    else if (shape == 1)
-        balanced();
-    else
-        random_listing((uint32_t)n);
-}
+/* ---- What is printed and drawn. ---- */
 
-/* The median time of our rebuild at 128 leaves over that at 32, in rounds that take turns. */
-static double growth(int shape)
+static void print_against(const char *title, int against_floor)
 {
-    static uint32_t small[32 * 32];
-    double t32[ROUNDS], t128[ROUNDS];
-    n = 32;
-    make(shape);
-    table_of_listing();
-    memcpy(small, cells, sizeof small);
-    n = 128;
-    make(shape);
-    table_of_listing();
-    for (int r = 0; r < ROUNDS; r++) {
-        double t0 = now();
-        for (int k = 0; k < 160; k++)
-            sink += quartree_rebuild(32, small, 32 * 32, standard, 2 * 30);
-        double t1 = now();
-        for (int k = 0; k < 10; k++)
-            ours_rebuild();
-        double t2 = now();
-        t32[r] = (t1 - t0) / 160;
-        t128[r] = (t2 - t1) / 10;
-    }
-    qsort(t32, ROUNDS, sizeof *t32, by_value);
-    qsort(t128, ROUNDS, sizeof *t128, by_value);
-    return t128[ROUNDS / 2] / t32[ROUNDS / 2];
-}
-
-int main(void)
-{
-    static const size_t counts[] = {16, 32, 64, 128};
-    static const char *const shapes[] = {"comb", "balanced", "random"};
-    printf("Ours over plain C of the same algorithm; and the direct count over our table:\n\n");
-    printf("| n | standardise | table | gap | direct count / table |\n");
-    printf("|---|---|---|---|---|\n");
-    for (size_t c = 0; c < sizeof counts / sizeof *counts; c++) {
+    printf("%s\n\n| n |", title);
+    for (int k = 0; k < CALLS; k++)
+        printf(" %s |", calls[k].name);
+    printf("\n|---|");
+    for (int k = 0; k < CALLS; k++)
+        printf("---|");
+    for (int c = 0; c < COUNTS; c++) {
         n = counts[c];
-        random_listing((uint32_t)n);
-        if (quartree_table(n, listing, 2 * (n - 2), cells, n * n) != 0)
-            fail("a listing was refused");
-        double direct = direct_ratio();
-        printf("| %zu | %.2f | %.2f | %.2f | %.0f |\n", n, ratio(ours_standardise, their_standardise, 400),
-               ratio(ours_table, their_table, 40), ratio(ours_gap, their_gap, 40), direct);
+        make(2);
+        printf("\n| %zu |", n);
+        for (int k = 0; k < CALLS; k++)
+            if (n > calls[k].most) {
+                printf(" |");
+            } else {
+                void (*other)(void) = against_floor ? calls[k].floor : calls[k].plain;
+                printf(" %.2f |", ratio(calls[k].ours, other, calls[k].times));
+            }
         fflush(stdout);
     }
-    printf("\nThe rebuilds: ours over plain C of the same algorithm; neighbour joining over ours;\n");
-    printf("the guided rebuild over ours; the slowest table with one cell changed over the table itself:\n\n");
+    printf("\n\n");
+}
+
+static void print_rebuilds(void)
+{
+    printf("The rebuilds: ours over plain C; neighbour joining over ours; the guided rebuild over ours;\n");
+    printf("the slowest table with one cell changed over the table itself:\n\n");
     printf("| tree | n | rebuild | neighbour joining / rebuild | guided / rebuild | damaged / accepted |\n");
     printf("|---|---|---|---|---|---|\n");
-    for (int shape = 0; shape < 3; shape++)
-        for (size_t c = 0; c < sizeof counts / sizeof *counts; c++) {
+    for (int shape = 0; shape < SHAPES; shape++)
+        for (int c = 0; c < COUNTS; c++) {
             n = counts[c];
             make(shape);
-            table_of_listing();
-            printf("| %s | %zu | %.2f | %.1f | %.2f | %.2f |\n", shapes[shape], n,
-                   ratio(ours_rebuild, their_rebuild, 40), ratio(joining, ours_rebuild, 4),
-                   ratio(ours_guided, ours_rebuild, 40), damaged_ratio());
+            printf("| %s | %zu | %.2f | %.1f | %.2f | %.2f |\n", shapes[shape], n, ratio(rebuild, rebuild_plain, 40),
+                   ratio(joining, rebuild, 4), ratio(guided, rebuild, 40), damaged_ratio());
             fflush(stdout);
         }
-    printf("\nOur rebuild at 128 leaves over that at 32, where n * n gives 16:");
-    for (int shape = 0; shape < 3; shape++)
-        printf(" %s %.1f%s", shapes[shape], growth(shape), shape < 2 ? "," : ".\n");
+    printf("\nCounting quartets directly over our table:");
+    for (int c = 0; c < COUNTS; c++) {
+        n = counts[c];
+        make(2);
+        printf(" %.0f at %zu%s", direct_ratio(), n, c < COUNTS - 1 ? "," : " leaves.\n\n");
+        fflush(stdout);
+    }
+}
+
+static void draw(const char *path, double grown[CALLS][COUNTS])
+{
+    static const char *const colours[] = {"#1b6ca8", "#c0392b", "#2e8b57", "#8e44ad", "#d68910", "#34495e"};
+    static const int drawn[] = {1, 4, 6, 7, 9, 11}; /* standardise, table, both rebuilds, and of a sheet */
+    FILE *f = fopen(path, "w");
+    if (f == NULL)
+        fail("the plot cannot be written");
+    fprintf(f, "<svg xmlns=\"http://www.w3.org/2000/svg\" width=\"560\" height=\"400\" font-family=\"sans-serif\" "
+               "font-size=\"12\">\n<rect width=\"560\" height=\"400\" fill=\"white\"/>\n");
+    for (int c = 0; c < COUNTS; c++)
+        fprintf(f, "<line x1=\"%d\" y1=\"30\" x2=\"%d\" y2=\"350\" stroke=\"#ddd\"/><text x=\"%d\" y=\"368\" "
+                   "text-anchor=\"middle\">%zu leaves</text>\n", 60 + 120 * c, 60 + 120 * c, 60 + 120 * c, counts[c]);
+    for (int e = 0; e <= 6; e += 2)
+        fprintf(f, "<line x1=\"60\" y1=\"%d\" x2=\"420\" y2=\"%d\" stroke=\"#ddd\"/><text x=\"52\" y=\"%d\" "
+                   "text-anchor=\"end\">%d</text>\n", 350 - 50 * e, 350 - 50 * e, 354 - 50 * e, 1 << e);
+    fprintf(f, "<text x=\"60\" y=\"20\">time over that at 16 leaves; dashed: n squared</text>\n"
+               "<line x1=\"60\" y1=\"350\" x2=\"420\" y2=\"50\" stroke=\"#888\" stroke-dasharray=\"5 4\"/>\n");
+    for (size_t d = 0; d < sizeof drawn / sizeof *drawn; d++) {
+        fprintf(f, "<polyline fill=\"none\" stroke=\"%s\" stroke-width=\"2\" points=\"", colours[d]);
+        for (int c = 0; c < COUNTS; c++)
+            fprintf(f, "%d,%.1f ", 60 + 120 * c, 350 - 50 * log2(grown[drawn[d]][c]));
+        fprintf(f, "\"/>\n<rect x=\"436\" y=\"%zu\" width=\"12\" height=\"3\" fill=\"%s\"/><text x=\"454\" y=\"%zu\">%s"
+                   "</text>\n", 56 + 20 * d, colours[d], 62 + 20 * d, calls[drawn[d]].name);
+    }
+    fprintf(f, "</svg>\n");
+    fclose(f);
+}
+
+int main(int argc, char **argv)
+{
+    static double grown[CALLS][COUNTS];
+    print_against("Ours over plain C of the same algorithm, on a random tree:", 0);
+    print_against("Ours over the floor, its buffers read and written once:", 1);
+    print_rebuilds();
+    growth(grown);
+    printf("Ours at 128 leaves over ours at 32, where n * n gives 16:");
+    for (int k = 0; k < CALLS; k++)
+        if (calls[k].most == 128)
+            printf(" %s %.1f%s", calls[k].name, grown[k][3] / grown[k][1], k < CALLS - 1 ? "," : ".\n");
+    if (argc > 1)
+        draw(argv[1], grown);
     return 0;
 }

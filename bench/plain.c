@@ -56,6 +56,34 @@ void plain_standardise(size_t n, const uint16_t *listing, uint16_t *out)
     emit(n, &c, 2 * n - 3, 0, out);
 }
 
+void plain_splits(size_t n, const uint16_t *listing, uint8_t *out)
+{
+    uint16_t rows[2 * MOST];
+    uint8_t sets[NUMBERS][16];
+    plain_standardise(n, listing, rows);
+    memset(sets, 0, sizeof sets);
+    for (size_t i = 0; i < n; i++)
+        sets[i][i / 8] = (uint8_t)(1u << (i % 8));
+    for (size_t k = 0; k < n - 2; k++)
+        for (size_t b = 0; b < 16; b++)
+            sets[n + k][b] = sets[rows[2 * k]][b] | sets[rows[2 * k + 1]][b];
+    memcpy(out, sets[n], 16 * (n - 3));
+}
+
+int plain_pairing(size_t n, const uint16_t *listing, const uint16_t question[4])
+{
+    static const int8_t by_mask[16] = {-1, -1, -1, 0, -1, 1, 2, -1, -1, 2, 1, -1, 0, -1, -1, -1};
+    uint8_t under[NUMBERS] = {0};
+    for (int q = 0; q < 4; q++)
+        under[question[q]] |= (uint8_t)(1u << q);
+    for (size_t k = 0; k < n - 2; k++) {
+        under[n + k] = under[listing[2 * k]] | under[listing[2 * k + 1]];
+        if (by_mask[under[n + k]] >= 0)
+            return by_mask[under[n + k]];
+    }
+    return -1;
+}
+
 static uint32_t pairs(size_t k) { return (uint32_t)(k * (k - 1) / 2); }
 
 void plain_table(size_t n, const uint16_t *listing, uint32_t *out)
@@ -197,6 +225,18 @@ static void join(size_t n, forest *f, size_t a, size_t b)
     f->size[a] += f->size[b];
 }
 
+static void single_leaves(size_t n, forest *f)
+{
+    for (size_t k = 0; k <= n; k++)
+        f->p[k] = k ? pairs(k) : 0;
+    for (size_t i = 0; i < n; i++) {
+        f->label[i] = (uint32_t)i;
+        f->m[i] = 0;
+        f->size[i] = 1;
+        f->name[i] = (uint16_t)i;
+    }
+}
+
 int plain_rebuild(size_t n, const uint32_t *table, uint16_t *out)
 {
     int wrong = wrong_table(n, table);
@@ -205,14 +245,7 @@ int plain_rebuild(size_t n, const uint32_t *table, uint16_t *out)
     forest f;
     children c;
     size_t r = 0;
-    for (size_t k = 0; k <= n; k++)
-        f.p[k] = k ? pairs(k) : 0;
-    for (size_t i = 0; i < n; i++) {
-        f.label[i] = (uint32_t)i;
-        f.m[i] = 0;
-        f.size[i] = 1;
-        f.name[i] = (uint16_t)i;
-    }
+    single_leaves(n, &f);
     for (size_t t = n - 1; t >= 1; t--)
         for (size_t b = t + 1; b < n;) {
             if (f.label[b] != b || !eligible(n, table, &f, t, b)) {
@@ -230,6 +263,120 @@ int plain_rebuild(size_t n, const uint32_t *table, uint16_t *out)
             return 6;
     emit(n, &c, f.name[1], 0, out);
     return 0;
+}
+
+int plain_guided(size_t n, const uint32_t *table, const uint16_t *merges, uint16_t *out)
+{
+    int wrong = wrong_table(n, table);
+    if (wrong)
+        return wrong;
+    forest f;
+    single_leaves(n, &f);
+    for (size_t k = 0; k < n - 1; k++) {
+        if (merges[2 * k] >= n || merges[2 * k + 1] >= n)
+            return 12;
+        size_t a = f.label[merges[2 * k]], b = f.label[merges[2 * k + 1]];
+        if (a == b || !eligible(n, table, &f, a, b))
+            return 12;
+        join(n, &f, a < b ? a : b, a < b ? b : a);
+    }
+    return plain_rebuild(n, table, out);
+}
+
+int plain_poll(size_t n, const uint8_t *records, uint32_t *out)
+{
+    uint32_t sums[32 * 32] = {0};
+    const uint8_t *r = records;
+    for (size_t a = 0; a < n; a++)
+        for (size_t b = a + 1; b < n; b++)
+            for (size_t c = b + 1; c < n; c++)
+                for (size_t d = c + 1; d < n; d++, r += 5) {
+                    if (r[0] != a || r[1] != b || r[2] != c || r[3] != d)
+                        return 10;
+                    if (r[4] > 3)
+                        return 11;
+                    if (r[4] == 3)
+                        continue;
+                    size_t x = r[4] == 0 ? b : r[4] == 1 ? c : d;
+                    size_t y = r[4] == 0 ? c : b, z = r[4] == 2 ? c : d;
+                    sums[a * n + x]++;
+                    sums[x * n + a]++;
+                    sums[y * n + z]++;
+                    sums[z * n + y]++;
+                }
+    memcpy(out, sums, n * n * sizeof *out);
+    return 0;
+}
+
+static int name_byte(uint8_t x)
+{
+    return (x >= 'A' && x <= 'Z') || (x >= 'a' && x <= 'z') || (x >= '0' && x <= '9') || x == '.' || x == '-';
+}
+
+int plain_sheet(const uint8_t *sheet, size_t len, size_t *n, size_t *offset)
+{
+    size_t start[MOST], at = 0;
+    if (len < 8 || len > 21512 || sheet[len - 2] != 0x51 || sheet[len - 1] != 0x54)
+        return 13;
+    *n = sheet[len - 8] + 256u * sheet[len - 7];
+    *offset = sheet[len - 6] + 256u * sheet[len - 5] + 65536u * sheet[len - 4] + 16777216u * (size_t)sheet[len - 3];
+    if (*n < 3 || *n > 128)
+        return 1;
+    if (*offset + *n * (*n - 1) + 8 != len)
+        return 14;
+    for (size_t i = 0; i < *n; i++) {
+        if (at >= *offset || sheet[at] == 0 || sheet[at] > 40 || at + 1 + sheet[at] > *offset)
+            return 15;
+        for (size_t k = 0; k < sheet[at]; k++)
+            if (!name_byte(sheet[at + 1 + k]))
+                return 15;
+        for (size_t j = 0; j < i; j++)
+            if (memcmp(sheet + start[j], sheet + at, 1 + (size_t)sheet[at]) == 0)
+                return 16;
+        start[i] = at;
+        at += 1 + (size_t)sheet[at];
+    }
+    return at < *offset ? 15 : 0;
+}
+
+int plain_sheet_table(const uint8_t *sheet, size_t len, uint32_t *out)
+{
+    size_t n, offset;
+    int wrong = plain_sheet(sheet, len, &n, &offset);
+    if (wrong)
+        return wrong;
+    const uint8_t *cell = sheet + offset;
+    for (size_t i = 0; i < n; i++) {
+        out[i * n + i] = 0;
+        for (size_t j = i + 1; j < n; j++, cell += 2)
+            out[i * n + j] = out[j * n + i] = cell[0] + 256u * cell[1];
+    }
+    return 0;
+}
+
+int plain_rebuild_sheet(const uint8_t *sheet, size_t len, uint8_t *out)
+{
+    uint32_t table[MOST * MOST];
+    uint16_t listing[2 * MOST];
+    int wrong = plain_sheet_table(sheet, len, table);
+    size_t n = wrong ? 0 : sheet[len - 8];
+    if (!wrong)
+        wrong = plain_rebuild(n, table, listing);
+    for (size_t k = 0; !wrong && k < 2 * (n - 2); k++) {
+        out[2 * k] = (uint8_t)listing[k];
+        out[2 * k + 1] = (uint8_t)(listing[k] >> 8);
+    }
+    return wrong;
+}
+
+size_t plain_sheet_name(const uint8_t *sheet, size_t len, size_t leaf)
+{
+    size_t n, offset, at = 0;
+    if (plain_sheet(sheet, len, &n, &offset) != 0 || leaf >= n)
+        return 0;
+    while (leaf-- > 0)
+        at += 1 + (size_t)sheet[at];
+    return 256 * (at + 1) + sheet[at];
 }
 
 void neighbour_joining(size_t n, const uint32_t *table, uint16_t *joined)

@@ -17,6 +17,21 @@ void direct_table(size_t n, const uint16_t *listing, uint32_t *out);
 int plain_gap(size_t n, const uint32_t *table, const uint16_t *listing, int64_t *out);
 /* The rebuild by eligible merges, n * n: checks 4 and 5, then the standard listing. 0, 4, 5 or 6. */
 int plain_rebuild(size_t n, const uint32_t *table, uint16_t *out);
+/* The guided rebuild: checks 4 and 5, the merges, and then the listing by plain_rebuild. 0, 4, 5 or 12. */
+int plain_guided(size_t n, const uint32_t *table, const uint16_t *merges, uint16_t *out);
+/* The splits, sixteen bytes each. */
+void plain_splits(size_t n, const uint16_t *listing, uint8_t *out);
+/* 0, 1 or 2: how the tree pairs the four leaves. */
+int plain_pairing(size_t n, const uint16_t *listing, const uint16_t question[4]);
+/* The sums of a poll of records of five bytes: 0, 10 or 11. All is judged before the first write. */
+int plain_poll(size_t n, const uint8_t *records, uint32_t *out);
+/* A sheet judged by its trailer: 0, or 13, 1, 14, 15, 16; and where its cells begin. */
+int plain_sheet(const uint8_t *sheet, size_t len, size_t *n, size_t *offset);
+/* The table of a sheet, and its tree's listing in bytes: 0, or as plain_sheet, or 6. */
+int plain_sheet_table(const uint8_t *sheet, size_t len, uint32_t *out);
+int plain_rebuild_sheet(const uint8_t *sheet, size_t len, uint8_t *out);
+/* 256 times the place of a name's first byte and its length, of a sheet that is accepted; else 0. */
+size_t plain_sheet_name(const uint8_t *sheet, size_t len, size_t leaf);
 /* Textbook neighbour joining, n * n * n, with the counts taken for similarities: the pairs joined, as leaf numbers.
    It makes no listing and refuses nothing. */
 void neighbour_joining(size_t n, const uint32_t *table, uint16_t *joined);
