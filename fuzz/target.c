@@ -1,0 +1,318 @@
+/* target.c: the fuzzer's target. It reads a call out of the fuzzer's bytes, makes it to the reference and to the
+   archive, and stops at any difference.
+
+   Compared are the reply and every byte of every lent buffer, inputs too; and the guard bytes beside the archive's
+   buffers must be as they were. At a difference the call is printed and the program aborts. With QUARTREE_FUZZ_SHOW in
+   the environment every call is printed before it is made, so that an input that traps can be read as well.
+
+   The bytes of an input: two that choose the stream which goes on after the last byte, then the entry, then the
+   arguments in the order in which they are read below. draw.c says what they mean. */
+
+#include "draw.h"
+#include "lent.h"
+#include <inttypes.h>
+#include <stdio.h>
+#include <stdlib.h>
+
+enum entry {
+    CHECK, STANDARDISE, SPLITS, PAIRING, TABLE, GAP, REBUILD, REBUILD_GUIDED, POLL, SHEET_TABLE, SHEET_NAME,
+    REBUILD_SHEET, ENTRIES
+};
+
+static const char *const entry_name[ENTRIES] = {
+    "check", "standardise", "splits", "pairing", "table", "gap", "rebuild", "rebuild_guided", "poll", "sheet_table",
+    "sheet_name", "rebuild_sheet"
+};
+
+/* The reference's entries take what the archive's take. */
+extern __typeof__(quartree_check) reference_check;
+extern __typeof__(quartree_standardise) reference_standardise;
+extern __typeof__(quartree_splits) reference_splits;
+extern __typeof__(quartree_pairing) reference_pairing;
+extern __typeof__(quartree_table) reference_table;
+extern __typeof__(quartree_gap) reference_gap;
+extern __typeof__(quartree_rebuild) reference_rebuild;
+extern __typeof__(quartree_rebuild_guided) reference_rebuild_guided;
+extern __typeof__(quartree_poll) reference_poll;
+extern __typeof__(quartree_sheet_table) reference_sheet_table;
+extern __typeof__(quartree_sheet_name) reference_sheet_name;
+extern __typeof__(quartree_rebuild_sheet) reference_rebuild_sheet;
+
+/* A call: the numbers it is given, and the buffers it is lent, inputs in the order of its arguments and then the
+   output. Of a sheet, n is what its trailer says and is not an argument. */
+struct call {
+    enum entry entry;
+    size_t n, leaf;
+    size_t buffers;
+    struct lent lent[MOST_LENT];
+};
+
+_Static_assert(sizeof(struct quartree_record) * MOST_RECORDS + GUARD_BYTES <= MEMORY_BYTES, "a poll can be lent");
+_Static_assert(sizeof(int64_t) * MOST_CELLS + GUARD_BYTES <= MEMORY_BYTES, "every output can be lent");
+
+/* How often each entry was answered by each number. */
+enum { NUMBERS = 17 };
+static unsigned long answered[ENTRIES][NUMBERS];
+
+/* What the fuzzer takes for new besides places in the code: an entry with a number at a class of leaf counts. */
+enum { CLASSES = 34 };
+__attribute__((section("__libfuzzer_extra_counters"))) static uint8_t reached[ENTRIES][NUMBERS][CLASSES];
+
+/* ---- Reading a call ---------------------------------------------------------------------------------------------- */
+
+static void lend_next(struct call *call, const char *name, const void *content, size_t cell_bytes, size_t cells)
+{
+    lend(&call->lent[call->buffers], call->buffers, name, content, cell_bytes, cells);
+    call->buffers++;
+}
+
+/* Lends an output whose room is drawn, of any content. */
+static void lend_output(struct source *source, struct call *call, size_t cell_bytes, size_t result)
+{
+    static uint8_t content[8 * MOST_CELLS];
+    size_t room = draw_room(source, result);
+    uint8_t first = take(source);
+    for (size_t byte = 0; byte < cell_bytes * room; byte++)
+        content[byte] = (uint8_t)(first + 151 * byte);
+    lend_next(call, "output", content, cell_bytes, room);
+}
+
+/* The elements of a result; of one that is due for no leaf count, a few. */
+static size_t result_of(size_t n, size_t elements)
+{
+    return n >= QUARTREE_LEAST_LEAVES && n <= FITTED_LEAVES ? elements : 4;
+}
+
+/* check, standardise, splits, pairing, table */
+static void read_listing_call(struct source *source, struct call *call)
+{
+    static uint16_t listing[MOST_NUMBERS], question[MOST_NUMBERS];
+    size_t n = call->n = draw_leaf_count(source), len;
+    draw_listing(source, n, listing);
+    len = damage_listing(source, n, listing);
+    lend_next(call, "listing", listing, sizeof *listing, len);
+    if (call->entry == STANDARDISE)
+        lend_output(source, call, sizeof(uint16_t), result_of(n, QUARTREE_LISTING_NUMBERS(n)));
+    if (call->entry == SPLITS)
+        lend_output(source, call, 1, result_of(n, QUARTREE_SPLIT_BYTES(n)));
+    if (call->entry == TABLE)
+        lend_output(source, call, sizeof(uint32_t), result_of(n, QUARTREE_TABLE_CELLS(n)));
+    if (call->entry == PAIRING) {
+        len = draw_question(source, n, question);
+        lend_next(call, "question", question, sizeof *question, len);
+    }
+}
+
+/* gap: a table and a listing, of one tree or of two. */
+static void read_gap_call(struct source *source, struct call *call)
+{
+    static uint16_t listing[MOST_NUMBERS], merges[MOST_NUMBERS];
+    static uint32_t table[MOST_CELLS];
+    size_t n = call->n = draw_leaf_count(source), len, cells;
+    draw_listing(source, n, listing);
+    if (take(source) < 128)
+        merges_of_listing(n, listing, merges);
+    else
+        draw_merges(source, n, merges);
+    table_of_merges(n, merges, table);
+    cells = damage_table(source, n, table);
+    len = damage_listing(source, n, listing);
+    lend_next(call, "table", table, sizeof *table, cells);
+    lend_next(call, "listing", listing, sizeof *listing, len);
+    lend_output(source, call, sizeof(int64_t), result_of(n, QUARTREE_TABLE_CELLS(n)));
+}
+
+/* rebuild, rebuild_guided */
+static void read_rebuild_call(struct source *source, struct call *call)
+{
+    static uint16_t merges[MOST_NUMBERS];
+    static uint32_t table[MOST_CELLS];
+    size_t n = call->n = draw_leaf_count(source), len, cells;
+    draw_merges(source, n, merges);
+    table_of_merges(n, merges, table);
+    cells = damage_table(source, n, table);
+    lend_next(call, "table", table, sizeof *table, cells);
+    if (call->entry == REBUILD_GUIDED) {
+        len = damage_merges(source, n, merges);
+        lend_next(call, "merges", merges, sizeof *merges, len);
+    }
+    lend_output(source, call, sizeof(uint16_t), result_of(n, QUARTREE_LISTING_NUMBERS(n)));
+}
+
+static void read_poll_call(struct source *source, struct call *call)
+{
+    static struct quartree_record records[MOST_RECORDS];
+    size_t n = call->n = draw_poll_leaf_count(source);
+    size_t count = draw_poll(source, n, records);
+    lend_next(call, "records", records, sizeof *records, count);
+    lend_output(source, call, sizeof(uint32_t), result_of(n, QUARTREE_TABLE_CELLS(n)));
+}
+
+/* sheet_table, sheet_name, rebuild_sheet */
+static void read_sheet_call(struct source *source, struct call *call)
+{
+    static uint8_t sheet[MOST_SHEET_BYTES];
+    size_t len = draw_sheet(source, sheet), n;
+    call->n = len < 8 ? 0 : sheet[len - 8] + (size_t)256 * sheet[len - 7];
+    n = call->n >= QUARTREE_LEAST_LEAVES && call->n <= QUARTREE_MOST_LEAVES ? call->n : 5;
+    lend_next(call, "sheet", sheet, 1, len);
+    if (call->entry == SHEET_TABLE)
+        lend_output(source, call, sizeof(uint32_t), QUARTREE_TABLE_CELLS(n));
+    else if (call->entry == REBUILD_SHEET)
+        lend_output(source, call, 1, QUARTREE_LISTING_BYTES(n));
+    else
+        call->leaf = draw_leaf(source, n);
+}
+
+static void read_call(struct source *source, struct call *call)
+{
+    call->entry = (enum entry)below(source, ENTRIES);
+    call->buffers = 0;
+    call->leaf = 0;
+    switch (call->entry) {
+    case GAP:
+        read_gap_call(source, call);
+        break;
+    case REBUILD:
+    case REBUILD_GUIDED:
+        read_rebuild_call(source, call);
+        break;
+    case POLL:
+        read_poll_call(source, call);
+        break;
+    case SHEET_TABLE:
+    case SHEET_NAME:
+    case REBUILD_SHEET:
+        read_sheet_call(source, call);
+        break;
+    default:
+        read_listing_call(source, call);
+    }
+}
+
+/* ---- Making it --------------------------------------------------------------------------------------------------- */
+
+/* The taker's entry, with these arguments. */
+#define ASK(name, ...) (taker == REFERENCE ? reference_##name(__VA_ARGS__) : quartree_##name(__VA_ARGS__))
+
+/* A buffer as two arguments, the pointer and its length. */
+#define LENT(place) call->lent[place].first[taker], call->lent[place].cells
+
+static uint64_t make_call(const struct call *call, enum taker taker)
+{
+    switch (call->entry) {
+    case CHECK:
+        return ASK(check, call->n, LENT(0));
+    case STANDARDISE:
+        return ASK(standardise, call->n, LENT(0), LENT(1));
+    case SPLITS:
+        return ASK(splits, call->n, LENT(0), LENT(1));
+    case PAIRING:
+        return ASK(pairing, call->n, LENT(0), LENT(1));
+    case TABLE:
+        return ASK(table, call->n, LENT(0), LENT(1));
+    case GAP:
+        return ASK(gap, call->n, LENT(0), LENT(1), LENT(2));
+    case REBUILD:
+        return ASK(rebuild, call->n, LENT(0), LENT(1));
+    case REBUILD_GUIDED:
+        return ASK(rebuild_guided, call->n, LENT(0), LENT(1), LENT(2));
+    case POLL:
+        return ASK(poll, call->n, LENT(0), LENT(1));
+    case SHEET_TABLE:
+        return ASK(sheet_table, LENT(0), LENT(1));
+    case SHEET_NAME:
+        return ASK(sheet_name, LENT(0), call->leaf);
+    default:
+        return ASK(rebuild_sheet, LENT(0), LENT(1));
+    }
+}
+
+static void print_call(const struct call *call)
+{
+    printf("call: quartree_%s, n = %zu", entry_name[call->entry], call->n);
+    if (call->entry == SHEET_NAME)
+        printf(", leaf = %zu", call->leaf);
+    putchar('\n');
+    for (size_t place = 0; place < call->buffers; place++)
+        print_lent(&call->lent[place]);
+}
+
+static void print_reply(const char *who, uint64_t reply)
+{
+    printf("the %s replies %u with %" PRIu64 " (%s)\n", who, QUARTREE_NUMBER(reply), QUARTREE_FIGURE(reply),
+           quartree_refusal_text(QUARTREE_NUMBER(reply)));
+}
+
+/* Makes the call to the archive. What is not as with the reference is printed, with the call; and then it stops. */
+static void compare(const struct call *call, uint64_t due, enum taker taker)
+{
+    uint64_t reply = make_call(call, taker);
+    bool alike = reply == due;
+    for (size_t place = 0; place < call->buffers; place++)
+        alike = alike && lent_alike(&call->lent[place], taker);
+    if (alike)
+        return;
+    printf("difference\n");
+    print_call(call);
+    print_reply("archive", reply);
+    print_reply("reference", due);
+    for (size_t place = 0; place < call->buffers; place++)
+        print_lent_difference(&call->lent[place], taker);
+    fflush(stdout);
+    abort();
+}
+
+/* ---- Counting ---------------------------------------------------------------------------------------------------- */
+
+static void print_answered(void)
+{
+    for (size_t entry = 0; entry < ENTRIES; entry++) {
+        printf("%14s  accepted: %lu, refused", entry_name[entry], answered[entry][0]);
+        for (size_t number = 1; number < NUMBERS; number++)
+            if (answered[entry][number] > 0)
+                printf(" %zu: %lu", number, answered[entry][number]);
+        putchar('\n');
+    }
+}
+
+/* The class of a leaf count: 0 for a refused one, one of its own up to 32, and three beyond. */
+static size_t class_of(size_t n)
+{
+    if (n < QUARTREE_LEAST_LEAVES || n > QUARTREE_MOST_LEAVES)
+        return 0;
+    return n <= 32 ? n - 2 : n <= 64 ? 31 : n < QUARTREE_MOST_LEAVES ? 32 : 33;
+}
+
+static void count_answer(const struct call *call, uint64_t reply)
+{
+    unsigned number = QUARTREE_NUMBER(reply);
+    if (number >= NUMBERS)
+        return;
+    answered[call->entry][number]++;
+    reached[call->entry][number][class_of(call->n)] = 1;
+}
+
+int LLVMFuzzerInitialize(int *argc, char ***argv)
+{
+    (void)argc;
+    (void)argv;
+    return atexit(print_answered);
+}
+
+int LLVMFuzzerTestOneInput(const uint8_t *data, size_t size)
+{
+    static struct call call;
+    struct source source = source_of(data, size);
+    uint64_t due;
+    read_call(&source, &call);
+    if (getenv("QUARTREE_FUZZ_SHOW") != NULL) {
+        print_call(&call);
+        fflush(stdout);
+    }
+    due = make_call(&call, REFERENCE);
+    compare(&call, due, PAGE_BEFORE);
+    compare(&call, due, PAGE_AFTER);
+    count_answer(&call, due);
+    return 0;
+}
