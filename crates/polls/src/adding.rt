@@ -47,7 +47,7 @@ fn add_pairs(n: usize, x: usize, y: usize, z: usize, w: usize, sums: &mut [u32; 
 }
 
 // Adds what a record adds: nothing where it is unresolved.
-pub fn add_record(n: usize, r: Record, sums: &mut [u32; 1024])
+pub(crate) fn add_record(n: usize, r: Record, sums: &mut [u32; 1024])
     requires { ⌜ Leaves n (r .a) (r .b) (r .c) (r .d) × (n ≤ most-polled) × (length (now sums) ≡ sum-cells)
         × RoomFor n 3 (now sums) ⌝ }
     ensures { λ u. ⌜ (length (now (sums .exit)) ≡ sum-cells)
@@ -73,7 +73,7 @@ pub fn add_record(n: usize, r: Record, sums: &mut [u32; 1024])
 }
 
 // Writes the first m sums.
-pub fn copy(m: usize, sums: &[u32; 1024], out: &mut [u32])
+pub(crate) fn copy(m: usize, sums: &[u32; 1024], out: &mut [u32])
     requires { ⌜ (m ≤ sum-cells) × (m ≤ length (now out)) × (length (now sums) ≡ sum-cells) ⌝ }
     ensures { λ r. ⌜ now (out .exit) ≡ filled m (λ k. getD (now (sums .entry)) k 0) (now (out .entry)) ⌝ }
 {

@@ -18,7 +18,7 @@ pub struct Quartet {
 }
 
 // The quartet after q in lexicographic order.
-pub fn next(n: usize, q: Quartet) -> Quartet
+pub(crate) fn next(n: usize, q: Quartet) -> Quartet
     requires { ⌜ (n ≤ most-polled) × Leaves n (q .a) (q .b) (q .c) (q .d) ⌝ }
     ensures { λ r. ⌜ r ≡ next-of n q ⌝ }
 {
@@ -54,7 +54,7 @@ pub fn next(n: usize, q: Quartet) -> Quartet
 }
 
 // A leaf number as an index.
-pub fn wide(x: u8) -> usize
+pub(crate) fn wide(x: u8) -> usize
     ensures { λ r. ⌜ r ≡ x ⌝ }
 {
     x as usize
@@ -77,7 +77,7 @@ fn is_due(q: Quartet, r: Record) -> bool
 }
 
 // Record k, where q is due: 10 before 11.
-pub fn judge_record(k: usize, q: Quartet, r: Record) -> Outcome
+pub(crate) fn judge_record(k: usize, q: Quartet, r: Record) -> Outcome
     ensures { λ o. ⌜ o ≡ outcome-of (bad-record k q r) ⌝ }
 {
     if !is_due(q, r) {
@@ -98,7 +98,7 @@ fn records_due(n: usize) -> usize
 }
 
 // The sizes: 1, 2, 3.
-pub fn judge_sizes(n: usize, lent: usize, room: usize) -> Outcome
+pub(crate) fn judge_sizes(n: usize, lent: usize, room: usize) -> Outcome
     ensures { λ r. ⌜ r ≡ outcome-of (bad-sizes n lent room) ⌝ }
 {
     if n < 4 {

@@ -26,7 +26,7 @@ pub struct Progress {
 }
 
 // Before the first record: what the sizes say, and the first quartet due.
-pub fn start(n: usize, lent: usize, room: usize) -> Progress
+pub(crate) fn start(n: usize, lent: usize, room: usize) -> Progress
     ensures { λ r. ⌜ (r .found ≡ outcome-of (bad-sizes n lent room)) × (r .due ≡ four 0 1 2 3) ⌝ }
 {
     let found = judge_sizes(n, lent, room);
@@ -40,7 +40,7 @@ pub fn start(n: usize, lent: usize, room: usize) -> Progress
 }
 
 // How many of the lent records are taken: all, or none where the sizes are refused.
-pub fn turns(s: Progress, lent: usize) -> usize
+pub(crate) fn turns(s: Progress, lent: usize) -> usize
     ensures { λ r. ⌜ (s .found ≡ Done → r ≡ lent) × ((x : Refusal) → s .found ≡ Refused x → r ≡ 0) ⌝ }
 {
     let found = s.found;
@@ -87,7 +87,7 @@ fn record_at(records: &[Record], k: usize) -> Record
 }
 
 // Takes the first `turns` of the lent records, one by one.
-pub fn tally(
+pub(crate) fn tally(
     n: usize,
     from: Progress,
     turns: usize,
@@ -107,7 +107,7 @@ pub fn tally(
 }
 
 // Writes the n * n sums where nothing was found wrong, and says what was found.
-pub fn deliver(n: usize, s: Progress, sums: [u32; 1024], out: &mut [u32]) -> Outcome
+pub(crate) fn deliver(n: usize, s: Progress, sums: [u32; 1024], out: &mut [u32]) -> Outcome
     requires { ⌜ (s .found ≡ Done → n ≤ most-polled) × (s .found ≡ Done → n * n ≤ length (now out))
         × (length sums ≡ sum-cells) ⌝ }
     ensures { λ r. ⌜ (r ≡ s .found) × (now (out .exit) ≡ delivered (s .found) (n * n) sums (now (out .entry))) ⌝ }
