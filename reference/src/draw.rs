@@ -161,9 +161,13 @@ fn spoil_length<T: Cell>(lent: &mut Vec<T>, chance: &mut Chance) {
 
 // Trees and listings.
 
-/// A tree of any shape: a comb, a balanced one, one cut at random places, or one grown leaf by leaf.
-pub fn any_tree(n: usize, chance: &mut Chance) -> Tree {
-    match chance.below(8) {
+/// How many shapes of trees there are to draw from.
+pub const SHAPES: usize = 5;
+
+/// A tree of a shape: a comb in the order of the leaves or in any, a balanced one, one cut at random places, or one
+/// grown leaf by leaf.
+pub fn tree_of_shape(shape: usize, n: usize, chance: &mut Chance) -> Tree {
+    match shape {
         0 => comb(&(0..n).collect::<Vec<usize>>()),
         1 => comb(&chance.order(n)),
         2 => cut(&chance.order(n), |size| size / 2),
@@ -173,6 +177,11 @@ pub fn any_tree(n: usize, chance: &mut Chance) -> Tree {
         }
         _ => Tree::grown(n, |edges| chance.below(edges)),
     }
+}
+
+/// A tree of any shape, every other time a grown one.
+pub fn any_tree(n: usize, chance: &mut Chance) -> Tree {
+    tree_of_shape(chance.below(8), n, chance)
 }
 
 /// The comb with the leaves in this order: every beginning of the order is one side of an edge.

@@ -58,6 +58,13 @@ fn p7() -> Vec<u32> {
 
 const P7_LISTING: [u16; 6] = [3, 4, 2, 5, 1, 6];
 
+/// The bytes of the splits of the tree with that listing: leaves 3 and 4, then 2, 3 and 4.
+fn p7_splits() -> Vec<i64> {
+    let mut bytes = vec![0; 32];
+    (bytes[0], bytes[16]) = (0b11000, 0b11100);
+    bytes
+}
+
 const PAPER_SHEET: [u8; 38] = [
     0x01, 0x61, 0x01, 0x62, 0x01, 0x63, 0x01, 0x64, 0x01, 0x65, //
     0x03, 0x00, 0x01, 0x00, 0x00, 0x00, 0x00, 0x00, 0x01, 0x00, //
@@ -122,6 +129,7 @@ pub fn known_cases() -> Vec<Known> {
     cases.extend(listings());
     cases.extend(tables());
     cases.extend(counts());
+    cases.extend(lengths());
     cases.extend(polls());
     cases.extend(sheets());
     cases
@@ -185,8 +193,6 @@ fn listings() -> Vec<Known> {
         case: Case::Pairing { n: 5, listing: P7_LISTING.into(), question: question.into() },
         due,
     };
-    let mut split_bytes = vec![0; 32];
-    (split_bytes[0], split_bytes[16]) = (0b11000, 0b11100);
     vec![
         check("P9 checked", [2, 3, 4, 1], Due::Written(0, Vec::new())),
         standardise("P9", [2, 3, 4, 1], Due::Written(0, vec![2, 3, 1, 4])),
@@ -204,7 +210,7 @@ fn listings() -> Vec<Known> {
         Known {
             name: "splits of P7's tree",
             case: Case::Splits { n: 5, listing: P7_LISTING.into(), room: 32 },
-            due: Due::Written(0, split_bytes),
+            due: Due::Written(0, p7_splits()),
         },
         Known {
             name: "three leaves have no splits",
@@ -276,6 +282,58 @@ fn counts() -> Vec<Known> {
     }
     let case = Case::Check { n: 128, listing: comb(128) };
     known.push(Known { name: "128 leaves", case, due: Due::Written(0, Vec::new()) });
+    known
+}
+
+/// One more than the greatest number of 16 bits.
+const FAR: usize = 1 << 16;
+
+/// An input that is too long by FAR.
+fn longer<T: Copy>(lent: &[T]) -> Vec<T> {
+    [lent, &vec![lent[0]; FAR]].concat()
+}
+
+/// Lengths whose lower 16 bits look otherwise than they are: an input too long by FAR is refused, room for FAR is enough.
+fn lengths() -> Vec<Known> {
+    let n = 5;
+    let (listing, table, question) = (P7_LISTING.to_vec(), p7(), vec![0, 1, 3, 4]);
+    let merges: Vec<u16> = vec![3, 4, 0, 1, 2, 3, 0, 2];
+    let inputs = [
+        Case::Check { n, listing: longer(&listing) },
+        Case::Standardise { n, listing: longer(&listing), room: 6 },
+        Case::Splits { n, listing: longer(&listing), room: 32 },
+        Case::Pairing { n, listing: longer(&listing), question: question.clone() },
+        Case::Pairing { n, listing: listing.clone(), question: longer(&question) },
+        Case::Table { n, listing: longer(&listing), room: 25 },
+        Case::Gap { n, table: longer(&table), listing: listing.clone(), room: 25 },
+        Case::Gap { n, table: table.clone(), listing: longer(&listing), room: 25 },
+        Case::Rebuild { n, table: longer(&table), room: 6 },
+        Case::Guided { n, table: longer(&table), merges: merges.clone(), room: 6 },
+        Case::Guided { n, table: table.clone(), merges: longer(&merges), room: 6 },
+        Case::Poll { n, records: longer(&p7_poll()), room: 25 },
+    ];
+    let sheets = [
+        Case::SheetTable { sheet: longer(&PAPER_SHEET), room: 25 },
+        Case::SheetName { sheet: longer(&PAPER_SHEET), leaf: 4 },
+        Case::RebuildSheet { sheet: longer(&PAPER_SHEET), room: 12 },
+    ];
+    let (rows, cells) = (wide(&listing), wide(&table));
+    let bytes: Vec<i64> = rows.iter().flat_map(|&child| [child, 0]).collect();
+    let rooms = [
+        (Case::Standardise { n, listing: listing.clone(), room: FAR }, Due::Written(0, rows.clone())),
+        (Case::Splits { n, listing: listing.clone(), room: FAR }, Due::Written(0, p7_splits())),
+        (Case::Table { n, listing: listing.clone(), room: FAR }, Due::Written(0, cells.clone())),
+        (Case::Gap { n, table: table.clone(), listing, room: FAR }, Due::Written(0, vec![0; 25])),
+        (Case::Rebuild { n, table: table.clone(), room: FAR }, Due::Written(0, rows.clone())),
+        (Case::Guided { n, table, merges, room: FAR }, Due::Written(0, rows)),
+        (Case::Poll { n, records: p7_poll(), room: FAR }, Due::Written(0, cells.clone())),
+        (Case::SheetTable { sheet: PAPER_SHEET.into(), room: FAR }, Due::Written(5, cells)),
+        (Case::RebuildSheet { sheet: PAPER_SHEET.into(), room: FAR }, Due::Written(0, bytes)),
+    ];
+    let mut known = Vec::new();
+    known.extend(inputs.map(|case| Known { name: "an input too long by 65,536", case, due: Due::Refused(2, 0) }));
+    known.extend(sheets.map(|case| Known { name: "a sheet too long by 65,536", case, due: Due::Refused(13, 0) }));
+    known.extend(rooms.map(|(case, due)| Known { name: "room for 65,536", case, due }));
     known
 }
 

@@ -1,9 +1,9 @@
 //! The reference: another program, written from the paper alone, whose results are compared with the part's.
 //!
-//! `reference [N [SEED]]` compares, in this order: the paper's own cases; every tree of 3 to 6 leaves; every listing,
-//! question, list of proposals and poll of very few; and N rounds (20,000 if not given) from SEED on (1 if not given),
-//! each with one case of every kind. It also tries demand 3 on the reference's own merging, over every finished list of
-//! small tables. The first difference stops it.
+//! `reference [N [SEED]]` compares, in this order: the paper's own cases; every tree of 3 to 6 leaves, and one of every
+//! shape of 32, 127 and 128; every listing, question, list of proposals and poll of very few; and N rounds (20,000 if not
+//! given) from SEED on (1 if not given), each with one case of every kind. It also tries demand 3 on the reference's own
+//! merging, over every finished list of small tables. The first difference stops it.
 
 mod cases;
 mod chance;
@@ -11,6 +11,7 @@ mod draw;
 mod every;
 mod known;
 mod merge;
+mod operations;
 mod part;
 mod poll;
 mod refuse;
@@ -77,6 +78,7 @@ impl Comparison {
         let start = Instant::now();
         self.known()?;
         self.every_tree()?;
+        self.large_trees()?;
         self.every_input()?;
         if !self.noted {
             let tried = self.every.try_demand_3(DRAWN_TABLES)?;
@@ -130,7 +132,24 @@ impl Comparison {
                 let origin = format!("tree {place} of {n} leaves");
                 watch::note(&origin);
                 let mut chance = Chance::new(n as u64, place as u64);
-                for case in small::cases_of_tree(tree, &mut chance) {
+                for case in operations::cases_of_tree(tree, &mut chance) {
+                    self.put(&case, &origin, &mut chance)?;
+                }
+            }
+        }
+        Ok(())
+    }
+
+    /// Trees of the most leaves that polls and the other operations take, of every shape, in every operation.
+    fn large_trees(&mut self) -> Result<(), String> {
+        for n in [32, 127, 128] {
+            println!("trees of {n} leaves, one of every shape, in every operation: {}", draw::SHAPES);
+            for shape in 0..draw::SHAPES {
+                let origin = format!("shape {shape} of {n} leaves");
+                watch::note(&origin);
+                let mut chance = Chance::new(n as u64, shape as u64);
+                let tree = draw::tree_of_shape(shape, n, &mut chance);
+                for case in operations::cases_of_tree(&tree, &mut chance) {
                     self.put(&case, &origin, &mut chance)?;
                 }
             }

@@ -1,48 +1,9 @@
-//! Everything of few leaves: each tree in every operation, and each listing, question, list of proposals and poll,
-//! the bad ones too.
+//! Everything of few leaves: each listing, question, list of proposals and poll, the bad ones too.
 
 use crate::cases::Case;
-use crate::chance::Chance;
-use crate::draw;
 use crate::poll::Record;
 use crate::table;
 use crate::tree::Tree;
-
-/// One case or more of every operation for a tree, all accepted; the pairings ask for each quartet.
-pub fn cases_of_tree(tree: &Tree, chance: &mut Chance) -> Vec<Case> {
-    let n = tree.leaves;
-    let (cells, children) = (n * n, 2 * (n - 2));
-    let table = table::of_tree(tree);
-    let sheet = draw::good_sheet(n, &table, chance);
-    let listing = |chance: &mut Chance| draw::any_listing(tree, chance);
-    let mut cases = vec![
-        Case::Check { n, listing: listing(chance) },
-        Case::Standardise { n, listing: listing(chance), room: children },
-        Case::Splits { n, listing: listing(chance), room: 16 * (n - 3) },
-        Case::Table { n, listing: listing(chance), room: cells },
-        Case::Gap { n, table: table.clone(), listing: listing(chance), room: cells },
-        Case::Gap { n, table: vec![0; cells], listing: listing(chance), room: cells },
-    ];
-    for four in table::quartets(n) {
-        let mut question = four.map(|leaf| leaf as u16);
-        chance.shuffle(&mut question);
-        cases.push(Case::Pairing { n, listing: listing(chance), question: question.into() });
-    }
-    if n > 3 {
-        cases.push(Case::Poll { n, records: draw::poll_of_tree(tree), room: cells });
-    }
-    cases.extend((0..5).map(|_| {
-        let merges = draw::any_merges(n, &table, chance);
-        Case::Guided { n, table: table.clone(), merges, room: children }
-    }));
-    cases.extend([
-        Case::Rebuild { n, table, room: children },
-        Case::SheetTable { sheet: sheet.clone(), room: cells },
-        Case::SheetName { sheet: sheet.clone(), leaf: n - 1 },
-        Case::RebuildSheet { sheet, room: 2 * children },
-    ]);
-    cases
-}
 
 /// Every list of so many numbers from 0 to most.
 fn every_list(length: usize, most: usize) -> impl Iterator<Item = Vec<u16>> {

@@ -1,0 +1,233 @@
+/* Wrong C entries, each around the archive's own, which stands here under the name real_.... FAULT chooses one; the
+   comment over it names the wrong program. reference/entry_faults builds them and demands that each is found. */
+#include "quartree.h"
+
+#define NUMBER(reply) QUARTREE_NUMBER(reply)
+
+uint64_t real_check(size_t n, const uint16_t *listing, size_t len);
+uint64_t real_standardise(size_t n, const uint16_t *listing, size_t len, uint16_t *out, size_t room);
+uint64_t real_splits(size_t n, const uint16_t *listing, size_t len, uint8_t *out, size_t room);
+uint64_t real_pairing(size_t n, const uint16_t *listing, size_t len, const uint16_t *question, size_t question_len);
+uint64_t real_table(size_t n, const uint16_t *listing, size_t len, uint32_t *out, size_t room);
+uint64_t real_gap(size_t n, const uint32_t *table, size_t cells, const uint16_t *listing, size_t len, int64_t *out,
+                  size_t room);
+uint64_t real_rebuild(size_t n, const uint32_t *table, size_t cells, uint16_t *out, size_t room);
+uint64_t real_rebuild_guided(size_t n, const uint32_t *table, size_t cells, const uint16_t *merges, size_t len,
+                             uint16_t *out, size_t room);
+uint64_t real_poll(size_t n, const struct quartree_record *records, size_t count, uint32_t *out, size_t room);
+uint64_t real_sheet_table(const uint8_t *sheet, size_t len, uint32_t *out, size_t room);
+uint64_t real_sheet_name(const uint8_t *sheet, size_t len, size_t leaf);
+uint32_t real_rebuild_sheet(const uint8_t *sheet, size_t sheet_len, uint8_t *listing, size_t listing_len);
+
+#if FAULT == 1 /* check: the position counted from 1 */
+uint64_t quartree_check(size_t n, const uint16_t *listing, size_t len)
+{
+    uint64_t reply = real_check(n, listing, len);
+    return NUMBER(reply) == QUARTREE_REFUSED_NAMED_BEFORE ? reply + 256 : reply;
+}
+
+#elif FAULT == 2 /* check: the leaf count in 32 bits */
+uint64_t quartree_check(size_t n, const uint16_t *listing, size_t len)
+{
+    return real_check((uint32_t)n, listing, len);
+}
+
+#elif FAULT == 3 /* standardise: the last row's children exchanged */
+uint64_t quartree_standardise(size_t n, const uint16_t *listing, size_t len, uint16_t *out, size_t room)
+{
+    uint64_t reply = real_standardise(n, listing, len, out, room);
+    if (NUMBER(reply) == QUARTREE_ACCEPTED) {
+        uint16_t first = out[len - 2];
+        out[len - 2] = out[len - 1];
+        out[len - 1] = first;
+    }
+    return reply;
+}
+
+#elif FAULT == 4 /* standardise: the room judged as an input, which has to be exact */
+uint64_t quartree_standardise(size_t n, const uint16_t *listing, size_t len, uint16_t *out, size_t room)
+{
+    return real_standardise(n, listing, len, out, room > len ? 0 : room);
+}
+
+#elif FAULT == 5 /* splits: the byte behind the result cleared */
+uint64_t quartree_splits(size_t n, const uint16_t *listing, size_t len, uint8_t *out, size_t room)
+{
+    uint64_t reply = real_splits(n, listing, len, out, room);
+    if (NUMBER(reply) == QUARTREE_ACCEPTED && room > QUARTREE_SPLIT_BYTES(n))
+        out[QUARTREE_SPLIT_BYTES(n)] = 0;
+    return reply;
+}
+
+#elif FAULT == 6 /* splits: leaf 127 forgotten */
+uint64_t quartree_splits(size_t n, const uint16_t *listing, size_t len, uint8_t *out, size_t room)
+{
+    uint64_t reply = real_splits(n, listing, len, out, room);
+    if (NUMBER(reply) == QUARTREE_ACCEPTED)
+        for (size_t at = 15; at < QUARTREE_SPLIT_BYTES(n); at += 16)
+            out[at] &= 0x7F;
+    return reply;
+}
+
+#elif FAULT == 7 /* pairing: the answer in the number's place */
+uint64_t quartree_pairing(size_t n, const uint16_t *listing, size_t len, const uint16_t *question, size_t question_len)
+{
+    uint64_t reply = real_pairing(n, listing, len, question, question_len);
+    return NUMBER(reply) == QUARTREE_ACCEPTED ? QUARTREE_FIGURE(reply) : reply;
+}
+
+#elif FAULT == 8 /* pairing: the question sorted in the caller's buffer */
+uint64_t quartree_pairing(size_t n, const uint16_t *listing, size_t len, const uint16_t *question, size_t question_len)
+{
+    uint64_t reply = real_pairing(n, listing, len, question, question_len);
+    if (question_len == 4 && question[0] > question[1]) {
+        uint16_t *lent = (uint16_t *)(uintptr_t)question, first = lent[0];
+        lent[0] = lent[1];
+        lent[1] = first;
+    }
+    return reply;
+}
+
+#elif FAULT == 9 /* table: the first cell cleared before the judgement */
+uint64_t quartree_table(size_t n, const uint16_t *listing, size_t len, uint32_t *out, size_t room)
+{
+    if (room > 0)
+        out[0] = 0;
+    return real_table(n, listing, len, out, room);
+}
+
+#elif FAULT == 10 /* table: the last cell of the largest table off by one */
+uint64_t quartree_table(size_t n, const uint16_t *listing, size_t len, uint32_t *out, size_t room)
+{
+    uint64_t reply = real_table(n, listing, len, out, room);
+    if (NUMBER(reply) == QUARTREE_ACCEPTED && n == QUARTREE_MOST_LEAVES)
+        out[QUARTREE_TABLE_CELLS(n) - 2]++;
+    return reply;
+}
+
+#elif FAULT == 11 /* gap: in 32 bits */
+uint64_t quartree_gap(size_t n, const uint32_t *table, size_t cells, const uint16_t *listing, size_t len, int64_t *out,
+                      size_t room)
+{
+    uint64_t reply = real_gap(n, table, cells, listing, len, out, room);
+    if (NUMBER(reply) == QUARTREE_ACCEPTED)
+        for (size_t cell = 0; cell < cells; cell++)
+            out[cell] = (int32_t)out[cell];
+    return reply;
+}
+
+#elif FAULT == 12 /* gap: the pair of unequal halves told as j, i */
+uint64_t quartree_gap(size_t n, const uint32_t *table, size_t cells, const uint16_t *listing, size_t len, int64_t *out,
+                      size_t room)
+{
+    uint64_t reply = real_gap(n, table, cells, listing, len, out, room);
+    uint64_t turned = QUARTREE_FIGURE_Y(reply) << 16 | QUARTREE_FIGURE_X(reply) << 8 | NUMBER(reply);
+    return NUMBER(reply) == QUARTREE_REFUSED_HALVES ? turned : reply;
+}
+
+#elif FAULT == 13 /* rebuild: how many cells are lent, told at 6 */
+uint64_t quartree_rebuild(size_t n, const uint32_t *table, size_t cells, uint16_t *out, size_t room)
+{
+    uint64_t reply = real_rebuild(n, table, cells, out, room);
+    return NUMBER(reply) == QUARTREE_REFUSED_NO_TREE ? reply | (uint64_t)cells << 8 : reply;
+}
+
+#elif FAULT == 14 /* rebuild: no listing where there is room for more */
+uint64_t quartree_rebuild(size_t n, const uint32_t *table, size_t cells, uint16_t *out, size_t room)
+{
+    uint16_t spare[QUARTREE_LISTING_NUMBERS(QUARTREE_MOST_LEAVES)];
+    size_t most = sizeof spare / sizeof spare[0];
+    return n <= QUARTREE_MOST_LEAVES && n >= 3 && room > QUARTREE_LISTING_NUMBERS(n)
+               ? real_rebuild(n, table, cells, spare, room < most ? room : most)
+               : real_rebuild(n, table, cells, out, room);
+}
+
+#elif FAULT == 15 /* guided: refused always at step 0 */
+uint64_t quartree_rebuild_guided(size_t n, const uint32_t *table, size_t cells, const uint16_t *merges, size_t len,
+                                 uint16_t *out, size_t room)
+{
+    uint64_t reply = real_rebuild_guided(n, table, cells, merges, len, out, room);
+    return NUMBER(reply) == QUARTREE_REFUSED_PROPOSAL ? QUARTREE_REFUSED_PROPOSAL : reply;
+}
+
+#elif FAULT == 16 /* guided: our own merges in the place of the proposed */
+uint64_t quartree_rebuild_guided(size_t n, const uint32_t *table, size_t cells, const uint16_t *merges, size_t len,
+                                 uint16_t *out, size_t room)
+{
+    uint64_t reply = real_rebuild_guided(n, table, cells, merges, len, out, room);
+    return NUMBER(reply) == QUARTREE_REFUSED_PROPOSAL ? real_rebuild(n, table, cells, out, room) : reply;
+}
+
+#elif FAULT == 17 /* poll: the record in 15 bits */
+uint64_t quartree_poll(size_t n, const struct quartree_record *records, size_t count, uint32_t *out, size_t room)
+{
+    return real_poll(n, records, count, out, room) & 0x7FFFFF;
+}
+
+#elif FAULT == 18 /* poll: the last cell's mirror forgotten */
+uint64_t quartree_poll(size_t n, const struct quartree_record *records, size_t count, uint32_t *out, size_t room)
+{
+    uint64_t reply = real_poll(n, records, count, out, room);
+    if (NUMBER(reply) == QUARTREE_ACCEPTED)
+        out[QUARTREE_TABLE_CELLS(n) - 2] = 0;
+    return reply;
+}
+
+#elif FAULT == 19 /* sheet_table: the leaf count not told */
+uint64_t quartree_sheet_table(const uint8_t *sheet, size_t len, uint32_t *out, size_t room)
+{
+    return NUMBER(real_sheet_table(sheet, len, out, room));
+}
+
+#elif FAULT == 20 /* sheet_table: the length in 16 bits */
+uint64_t quartree_sheet_table(const uint8_t *sheet, size_t len, uint32_t *out, size_t room)
+{
+    return real_sheet_table(sheet, (uint16_t)len, out, room);
+}
+
+#elif FAULT == 21 /* sheet_name: the length byte shown with the name */
+uint64_t quartree_sheet_name(const uint8_t *sheet, size_t len, size_t leaf)
+{
+    uint64_t reply = real_sheet_name(sheet, len, leaf);
+    return NUMBER(reply) == QUARTREE_ACCEPTED ? reply - (1 << 16) + (1 << 8) : reply;
+}
+
+#elif FAULT == 22 /* sheet_name: leaf n refused as a name */
+uint64_t quartree_sheet_name(const uint8_t *sheet, size_t len, size_t leaf)
+{
+    uint64_t reply = real_sheet_name(sheet, len, leaf);
+    return NUMBER(reply) == QUARTREE_REFUSED_QUESTION ? QUARTREE_REFUSED_NAME | (uint64_t)leaf << 8 : reply;
+}
+
+#elif FAULT == 23 /* rebuild_sheet: no tree told as accepted */
+uint32_t quartree_rebuild_sheet(const uint8_t *sheet, size_t sheet_len, uint8_t *listing, size_t listing_len)
+{
+    uint32_t number = real_rebuild_sheet(sheet, sheet_len, listing, listing_len);
+    return number == QUARTREE_REFUSED_NO_TREE ? QUARTREE_ACCEPTED : number;
+}
+
+#elif FAULT == 24 /* rebuild_sheet: high byte first */
+uint32_t quartree_rebuild_sheet(const uint8_t *sheet, size_t sheet_len, uint8_t *listing, size_t listing_len)
+{
+    uint32_t number = real_rebuild_sheet(sheet, sheet_len, listing, listing_len);
+    size_t n = number == QUARTREE_ACCEPTED ? sheet[sheet_len - 8] : 2;
+    for (size_t at = 0; at < QUARTREE_LISTING_BYTES(n); at += 2) {
+        uint8_t low = listing[at];
+        listing[at] = listing[at + 1];
+        listing[at + 1] = low;
+    }
+    return number;
+}
+
+#elif FAULT == 25 /* check: the length in 16 bits */
+uint64_t quartree_check(size_t n, const uint16_t *listing, size_t len)
+{
+    return real_check(n, listing, (uint16_t)len);
+}
+
+#elif FAULT == 26 /* rebuild: the room in 16 bits */
+uint64_t quartree_rebuild(size_t n, const uint32_t *table, size_t cells, uint16_t *out, size_t room)
+{
+    return real_rebuild(n, table, cells, out, (uint16_t)room);
+}
+#endif
