@@ -64,6 +64,11 @@ pub largest : P (most-leaves - 2) ≡ 7875
 unfolding P
 largest = refl
 
+-- and the most pairs of leaves
+pub most-pairs : P most-leaves ≡ 8128
+unfolding P
+most-pairs = refl
+
 pub pairs-suc : (n : ℕ) (f : ℕ → ℕ → Bool) → pairs (suc n) f ≡ pairs n f + count n (λ p. f p n)
 unfolding pairs
 pairs-suc n f = refl

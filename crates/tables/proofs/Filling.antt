@@ -14,7 +14,7 @@ use Rattle.base.proofs.Bools.{is-false}
 use Rattle.base.proofs.Lists.{length-tab, getD-tab}
 use Rattle.pairs.specs.Limits.{most-leaves, LeafCount}
 use Rattle.pairs.specs.Pairs.{P}
-use Rattle.pairs.proofs.Pairs.{P-zero, P-mono}
+use Rattle.pairs.proofs.Pairs.{P-zero, P-mono, most-pairs}
 use Rattle.trees.specs.Trees.{Tree, leaf, node, leaves, size}
 use Rattle.trees.specs.Listings.{KeepsRules, under, tree-of}
 use Rattle.trees.specs.Quartets.{quartets}
@@ -26,7 +26,6 @@ use Rattle.trees.proofs.Asides.{inner-sum, inner-sum-leaf}
 use Rattle.trees.proofs.PathSums.{path-sum, count-formula}
 use Rattle.tables.specs.Fills.{most-count, run, across, both-in, due, Painted, Meeting, Sized, Spreads, Spread}
 use Rattle.tables.specs.Fills.{Cleared}
-use Rattle.tables.proofs.Places.{most-pairs}
 use Rattle.tables.proofs.Painting.{repaint}
 use Rattle.tables.proofs.Joining.{inner-sum-le, joined}
 use Rattle.tables.proofs.Spreading.{leaf-painted, run-one}

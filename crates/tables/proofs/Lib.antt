@@ -1,4 +1,3 @@
-pub mod Places
 pub mod Searches
 pub mod Verdicts
 pub mod Fronts

@@ -16,18 +16,17 @@ use Rattle.base.proofs.Bools.{bool?, is-false, and-both, eqb-same}
 use Rattle.base.proofs.Lists.{getD-tab}
 use Rattle.pairs.specs.Limits.{most-leaves}
 use Rattle.pairs.specs.Pairs.{P}
-use Rattle.pairs.proofs.Pairs.{P-le, P-mono}
+use Rattle.pairs.proofs.Pairs.{P-le, P-mono, most-pairs}
 use Rattle.trees.specs.Trees.{Tree, leaf, node, leaves, size}
 use Rattle.trees.specs.Listings.{under}
 use Rattle.trees.proofs.Trees.{leaves-leaf, leaves-node, leaf-eq, size-node, size-pos, Distinct, Within, within-left}
 use Rattle.trees.proofs.Trees.{within-right}
 use Rattle.trees.proofs.Asides.{inner-sum, inner-sum-leaf, inner-sum-left, inner-sum-right}
 use Rattle.trees.proofs.PathSums.{path-sum}
+use Rattle.trees.proofs.Rows.{under-leaf, fair}
 use Rattle.tables.specs.Fills.{run, across, both-in, due, Painted, Meeting, Spreads, Spread, most-count}
-use Rattle.tables.proofs.Places.{most-pairs}
 use Rattle.tables.proofs.Painting.{unpainted, repaint}
 use Rattle.tables.proofs.Joining.{inner-sum-le, joined}
-use Rattle.trees.proofs.Rows.{under-leaf, fair}
 use Rattle.tables.proofs.Rows.{first-child, second-child, Row, row-under}
 
 -- Runs: of one leaf, of the same places, and two of them one after the other.

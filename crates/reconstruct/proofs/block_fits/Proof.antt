@@ -7,8 +7,8 @@ use native.Mathlib.Omega.{arith}
 use borrow.Author.Count.{below-more}
 use borrow.Author.Needs.{needs}
 use lib.ListN.{getD}
+use Rattle.pairs.proofs.Pairs.{most-pairs}
 use Rattle.trees.specs.Tables.{cell}
-use Rattle.tables.proofs.Places.{most-pairs}
 use Rattle.reconstruct.proofs.Fits.{row-right, right-row, says-no, says-yes}
 use Rattle.reconstruct.proofs.block_fits.Statement.{statement}
 use Rattle.reconstruct.proofs.block_fits.Tie as tie

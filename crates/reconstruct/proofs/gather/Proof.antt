@@ -6,8 +6,8 @@ use borrow.Author.Needs.{needs}
 use lib.ListN.{getD}
 use Rattle.pairs.specs.Limits.{most-leaves}
 use Rattle.pairs.specs.Pairs.{P}
+use Rattle.pairs.proofs.Pairs.{most-pairs}
 use Rattle.reconstruct.specs.Merged.{Gathered}
-use Rattle.tables.proofs.Places.{most-pairs}
 use Rattle.reconstruct.proofs.Merged.{growth-le, gather-none, m-next, gather-turn, gather-end}
 use Rattle.reconstruct.proofs.gather.Statement.{statement}
 use Rattle.reconstruct.proofs.gather.Tie as tie

@@ -2,8 +2,8 @@
 -- side's rows says the same, since the table has equal halves.
 use native.Mathlib.Omega.{arith}
 use borrow.Author.Needs.{needs}
+use Rattle.pairs.proofs.Pairs.{most-pairs}
 use Rattle.trees.specs.Tables.{cell}
-use Rattle.tables.proofs.Places.{most-pairs}
 use Rattle.reconstruct.proofs.Fits.{says-no, unexpected, few, both-fit, place-in, expected-small, first-off}
 use Rattle.reconstruct.proofs.Fits.{along, across}
 use Rattle.reconstruct.proofs.pair_fits.Statement.{statement}

@@ -7,9 +7,10 @@ use lib.ListN.{length}
 use Rattle.base.specs.Numbers.{count}
 use Rattle.base.proofs.Counts.{count-le}
 use Rattle.pairs.specs.Limits.{most-leaves}
+use Rattle.pairs.proofs.Pairs.{most-pairs}
+use Rattle.pairs.proofs.Places.{place-small}
 use Rattle.trees.specs.Tables.{cell}
 use Rattle.reconstruct.specs.Fits.{off-at}
-use Rattle.tables.proofs.Places.{most-pairs, place-small}
 use Rattle.reconstruct.proofs.Bounds.{row-inside}
 use Rattle.reconstruct.proofs.Fits.{count-turn}
 use Rattle.reconstruct.proofs.row_wrong.Statement.{statement}

@@ -2,8 +2,8 @@
 use native.Mathlib.Omega.{arith}
 use borrow.Author.Needs.{needs}
 use Rattle.base.proofs.Lists.{place}
+use Rattle.pairs.proofs.Places.{place-small}
 use Rattle.trees.specs.Tables.{cell}
-use Rattle.tables.proofs.Places.{place-small}
 use Rattle.tables.proofs.cell_at.Statement.{statement}
 use Rattle.tables.proofs.cell_at.Tie as tie
 

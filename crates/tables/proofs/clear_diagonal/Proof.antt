@@ -4,8 +4,8 @@ use Prim.Native.Nat.{_-_, _≤_}
 use native.Mathlib.Omega.{arith}
 use borrow.Author.Needs.{needs}
 use Rattle.base.proofs.Lists.{place}
+use Rattle.pairs.proofs.Places.{place-small}
 use Rattle.tables.specs.Fills.{Cleared}
-use Rattle.tables.proofs.Places.{place-small}
 use Rattle.tables.proofs.Painting.{clear-start, clear-turn}
 use Rattle.tables.proofs.clear_diagonal.Statement.{statement}
 use Rattle.tables.proofs.clear_diagonal.Tie as tie

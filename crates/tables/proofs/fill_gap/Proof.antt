@@ -1,7 +1,7 @@
 -- `tables::fill_gap` meets its contract: the tree's table stands at the front of the buffer that is subtracted.
 use native.Mathlib.Omega.{arith}
 use borrow.Author.Needs.{needs}
-use Rattle.tables.proofs.Places.{square-small}
+use Rattle.pairs.proofs.Places.{square-small}
 use Rattle.tables.proofs.Gaps.{gaps-made}
 use Rattle.tables.proofs.fill_gap.Statement.{statement}
 use Rattle.tables.proofs.fill_gap.Tie as tie

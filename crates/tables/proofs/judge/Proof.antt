@@ -3,11 +3,11 @@ use mathlib.Core.Path.{ap, sym, _∙_}
 use native.Mathlib.Omega.{arith}
 use borrow.Author.Needs.{needs}
 use borrow.Author.Tests.{lt-leb, le-leb, eq-eqb, ne-eqb}
+use Rattle.pairs.proofs.Places.{square-small}
 use Rattle.refusals.specs.Refusals.{judged, outcome-of}
 use Rattle.refusals.proofs.Answers.{judged-alone}
 use Rattle.listings.specs.Sizes.{bad-count, bad-length, bad-room}
 use Rattle.tables.specs.Operations.{judged-table}
-use Rattle.tables.proofs.Places.{square-small}
 use Rattle.tables.proofs.judge.Statement.{statement}
 use Rattle.tables.proofs.judge.Tie as tie
 

@@ -1,10 +1,22 @@
 -- `tables::put` meets its contract: both places are in the table.
+use Prim.Native.Nat.{ℕ, _+_, _*_, _≤_, _<_}
 use native.Mathlib.Omega.{arith}
 use borrow.Author.Needs.{needs}
 use lib.ListN.{length-set}
-use Rattle.tables.proofs.Places.{both-in, both-small}
+use Rattle.base.proofs.Lists.{place}
+use Rattle.pairs.specs.Limits.{most-leaves}
+use Rattle.pairs.proofs.Places.{place-small}
 use Rattle.tables.proofs.put.Statement.{statement}
 use Rattle.tables.proofs.put.Tie as tie
+
+-- a cell and its mirror
+both-in : (n i j : ℕ) → i < n → j < n → (i * n + j < n * n) × (j * n + i < n * n)
+both-in n i j li lj = (place n i j li lj, place n j i lj li)
+
+both-small :
+    (n i j : ℕ) → n ≤ most-leaves → i < n → j < n
+    → (i * n + j < 16384) × (j * n + i < 16384)
+both-small n i j few li lj = (place-small n i j few li lj, place-small n j i few lj li)
 
 mul-out : tie.Need-mul-out
 mul-out c = omega (arith, both-small (c .args .n) (c .args .i) (c .args .j) (omega arith) (omega arith) (omega arith))

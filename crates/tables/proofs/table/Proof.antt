@@ -8,12 +8,12 @@ use borrow.Author.Needs.{needs}
 use borrow.Author.Tests.{not-true, not-false}
 use lib.ListN.{length}
 use Rattle.pairs.specs.Limits.{LeafCount}
+use Rattle.pairs.proofs.Places.{square-small}
 use Rattle.refusals.specs.Refusals.{outcome-of}
 use Rattle.refusals.proofs.Answers.{outcome-answered, done-none, refused-some, written-refused}
 use Rattle.listings.specs.Operations.{judged-listing}
 use Rattle.listings.proofs.Judged.{counted, count-refused, accepted-listing}
 use Rattle.tables.specs.Operations.{tabled}
-use Rattle.tables.proofs.Places.{square-small}
 use Rattle.tables.proofs.Judging.{table-written}
 use Rattle.tables.proofs.table.Statement.{statement}
 use Rattle.tables.proofs.table.Tie as tie
