@@ -45,7 +45,7 @@ fn gap_of_zeros() {
     let listing: [u16; 6] = [3, 4, 2, 5, 1, 6];
     let mut gaps = [0i64; 25];
     io::write_all(1, b"gap of the zero table against 3 4 2 5 1 6: ");
-    say(tables::gap(5, &zeros, &listing, &mut gaps));
+    say(gaps::gap(5, &zeros, &listing, &mut gaps));
     io::write_all(1, b"-3 at (0,1): ");
     say_whether(gaps[1] == -3);
     io::write_all(1, b"0 at (0,3): ");
@@ -146,7 +146,7 @@ fn leaf_count(n: usize) {
     let mut cells = [0u32; 16384];
     let mut rebuilt = [0u16; 252];
     say(listings::check(n, &listing));
-    say(tables::table(n, &listing, &mut cells));
+    say(counts::table(n, &listing, &mut cells));
     say(reconstruct::rebuild(n, &cells, &mut rebuilt));
 }
 

@@ -25,8 +25,10 @@ use Rattle.trees.specs.Tables.{first-filled, first-unequal, wrong-table}
 use Rattle.listings.specs.Sizes.{bad-count, bad-length, bad-room}
 use Rattle.listings.specs.Operations.{judged-listing, checked, standardised, split-listing}
 use Rattle.listings.proofs.Judged.{count-right, length-right}
-use Rattle.tables.specs.Operations.{judged-table, tabled, judged-gap, gapped}
+use Rattle.tables.specs.Operations.{judged-table}
 use Rattle.tables.proofs.Judging.{accepted-table}
+use Rattle.counts.specs.Operations.{tabled}
+use Rattle.gaps.specs.Operations.{judged-gap, gapped}
 use Rattle.merging.specs.MergeLists.{Pair, after, each-eligible, subtrees}
 use Rattle.merging.specs.Rebuilds.{result, rebuilt, guided}
 use Rattle.merging.proofs.Rebuilds.{own-list, rebuilt-own, guided-accepted, guided-refused}

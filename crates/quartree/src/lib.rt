@@ -7,7 +7,8 @@ ghost use Prim.Native.Nat.{_+_, _*_, _<_};
 ghost use lib.ListN.{length};
 ghost use Rattle.refusals.specs.Refusals.{figures-of, written};
 ghost use Rattle.listings.specs.Operations.{checked, standardised, split-listing};
-ghost use Rattle.tables.specs.Operations.{tabled, gapped};
+ghost use Rattle.counts.specs.Operations.{tabled};
+ghost use Rattle.gaps.specs.Operations.{gapped};
 ghost use Rattle.reconstruct.specs.Operations.{rebuild-answer, guided-answer};
 ghost use Rattle.sheets.specs.Sheets.{leaves-of, offset-of, start, name};
 ghost use Rattle.sheets.specs.Operations.{tabled-sheet, name-asked};
@@ -135,7 +136,7 @@ pub extern "C" fn quartree_table(n: usize, listing: &[u16], out: &mut [u32]) -> 
     ensures buffer { λ r. ⌜ now (out .exit)
         ≡ written (tabled n (now (listing .entry)) (length (now (out .entry)))) (now (out .entry)) ⌝ }
 {
-    reply_of(tables::table(n, listing, out))
+    reply_of(counts::table(n, listing, out))
 }
 
 // The gap between a table and the tree that a listing stands for: 1, 2, 3, 7, 8, 4, 5.
@@ -147,7 +148,7 @@ pub extern "C" fn quartree_gap(n: usize, cells: &[u32], listing: &[u16], out: &m
         ≡ written (gapped n (now (cells .entry)) (now (listing .entry)) (length (now (out .entry))))
         (now (out .entry)) ⌝ }
 {
-    reply_of(tables::gap(n, cells, listing, out))
+    reply_of(gaps::gap(n, cells, listing, out))
 }
 
 // Our own rebuild: 1, 2, 3, 4, 5, 6.

@@ -11,11 +11,12 @@ use Rattle.base.proofs.Lists.{length-tab}
 use Rattle.pairs.specs.Limits.{most-leaves, LeafCount}
 use Rattle.refusals.specs.declared.Refusal.{Refusal}
 use Rattle.refusals.specs.Refusals.{judged, written}
-use Rattle.refusals.proofs.Answers.{judged-on, judged-none, judged-alone, unless-passed, written-done}
+use Rattle.refusals.proofs.Answers.{judged-on, judged-none, unless-passed, written-done}
 use Rattle.trees.specs.Tables.{IsTable, wrong-table}
 use Rattle.listings.specs.Sizes.{bad-count, bad-room}
-use Rattle.listings.proofs.Judged.{count-passes, length-passes, room-passes}
+use Rattle.listings.proofs.Judged.{room-passes}
 use Rattle.tables.specs.Operations.{judged-table}
+use Rattle.tables.proofs.Judging.{cells-left}
 use Rattle.reconstruct.specs.Operations.{rebuild-answer}
 use Rattle.sheets.specs.Sheets.{leaves-of, offset-of, mirrored, cells-of, table-with}
 use Rattle.sheets.specs.Operations.{bad-ends, bad-sum, judged-figures, judged-sheet, tabled-sheet}
@@ -38,13 +39,7 @@ wrong-none n t h = rw (h .zero-diagonal, h .equal-halves, wrong-table)
 
 table-passes :
     (n : ℕ) (t : List ℕ) (due room : ℕ) → LeafCount n → IsTable n t → due ≤ room → judged-table n t due room ≡ none
-unfolding judged-table
-table-passes n t due room c h l =
-    count-passes _ n c
-    ∙ length-passes _ (n * n) (length t) (h .cells)
-    ∙ room-passes _ due room l
-    ∙ judged-alone (wrong-table n t)
-    ∙ wrong-none n t h
+table-passes n t due room c h l = cells-left n t due room c (h .cells) l ∙ wrong-none n t h
 
 -- a refusal that does not arise is passed
 passed : (o : Option Refusal) (l : List (Option Refusal)) → o ≡ none → judged (o ∷ l) ≡ judged l

@@ -1,11 +1,3 @@
 pub mod Searches
 pub mod Verdicts
-pub mod Fronts
-pub mod Signed
-pub mod Painting
-pub mod Rows
-pub mod Joining
-pub mod Spreading
-pub mod Filling
-pub mod Gaps
 pub mod Judging

@@ -5,9 +5,9 @@ use borrow.Author.Needs.{needs}
 use borrow.Author.Tests.{lt-leb, le-leb, eq-eqb, ne-eqb}
 use Rattle.pairs.proofs.Places.{square-small}
 use Rattle.refusals.specs.Refusals.{judged, outcome-of}
-use Rattle.refusals.proofs.Answers.{judged-alone}
 use Rattle.listings.specs.Sizes.{bad-count, bad-length, bad-room}
 use Rattle.tables.specs.Operations.{judged-table}
+use Rattle.tables.proofs.Judging.{cells-left}
 use Rattle.tables.proofs.judge.Statement.{statement}
 use Rattle.tables.proofs.judge.Tie as tie
 
@@ -40,15 +40,14 @@ returns-4 c =
 wrong-requires : tie.Need-wrong-requires
 wrong-requires c κs = search needs
 
+-- the sizes are right, so that the cells decide
 returns-5 : tie.Need-returns-5
-unfolding judged-table judged bad-count bad-length bad-room
 returns-5 c =
-    simp (
-      le-leb _ _ (c .before .before .before .before .if1 .left),
-      le-leb _ _ (c .before .before .before .if2 .left),
-      eq-eqb _ _ (c .before .before .if3 .left),
-      le-leb _ _ (c .before .if4 .left),
-    ) (c .wrong .ensures ∙ ap outcome-of (sym (judged-alone _)))
+    let three = c .before .before in
+    let decide =
+    cells-left _ _ _ _ (three .before .before .if1 .left, three .before .if2 .left) (three .if3 .left)
+    (c .before .if4 .left) in
+    c .wrong .ensures ∙ ap outcome-of (sym decide)
 
 pub judge-spec : {M : Type 1} → statement M
 judge-spec =

@@ -1,0 +1,4 @@
+pub mod Fronts
+pub mod Signed
+pub mod Gaps
+pub mod Judging
