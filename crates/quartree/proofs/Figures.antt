@@ -23,8 +23,9 @@ use Rattle.refusals.specs.Refusals.{number-of, figures-of, Answer, accepted, re
 use Rattle.trees.specs.Listings.{child, broken-from, broken}
 use Rattle.trees.specs.Tables.{first-filled, first-unequal, wrong-table}
 use Rattle.listings.specs.Sizes.{bad-count, bad-length, bad-room}
-use Rattle.listings.specs.Operations.{judged-listing, checked, standardised, split-listing}
+use Rattle.listings.specs.Operations.{judged-listing, checked, standardised}
 use Rattle.listings.proofs.Judged.{count-right, length-right}
+use Rattle.splits.specs.Operations.{split-listing}
 use Rattle.tables.specs.Operations.{judged-table}
 use Rattle.tables.proofs.Judging.{accepted-table}
 use Rattle.counts.specs.Operations.{tabled}

@@ -16,9 +16,10 @@ use Rattle.refusals.specs.declared.Refusal.the-variants.{Question}
 use Rattle.refusals.specs.Refusals.{Answer, accepted, refused, judged, answered, unless}
 use Rattle.refusals.proofs.Answers.{unless-passed}
 use Rattle.listings.specs.Sizes.{bad-length}
-use Rattle.listings.specs.Operations.{judged-listing, wrong-at, bad-question, pairing-asked}
+use Rattle.listings.specs.Operations.{judged-listing, wrong-at, bad-question}
 use Rattle.listings.proofs.Judged.{count-stops, count-passes, length-stops, length-passes}
-use Rattle.shapes.specs.Answers.{paired-answer}
+use Rattle.pairings.specs.Operations.{pairing-asked}
+use Rattle.pairings.specs.Answers.{paired-answer}
 use Rattle.quartree.specs.Replies.{number-reply}
 use Rattle.quartree.specs.Entries.{question-asked}
 use Rattle.quartree.specs.Steps.{SmallPaired, paired-reply}

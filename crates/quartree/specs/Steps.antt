@@ -4,8 +4,8 @@ use Prim.Native.Nat.{ℕ, _*_, _<_}
 use Rattle.refusals.specs.declared.Outcome.{Outcome}
 use Rattle.refusals.specs.declared.Outcome.the-variants.{Done, Refused}
 use Rattle.refusals.specs.Refusals.{figures-of}
-use Rattle.shapes.specs.declared.Paired.{Paired}
-use Rattle.shapes.specs.declared.Paired.the-variants.{As, Refused as NotPaired}
+use Rattle.pairings.specs.declared.Paired.{Paired}
+use Rattle.pairings.specs.declared.Paired.the-variants.{As, Refused as NotPaired}
 use Rattle.quartree.specs.Replies.{refusal-reply}
 
 -- every figure fits 16 bits

@@ -1,12 +1,13 @@
 // The C interface (include/quartree.h): one thin entry for each public operation.
+use pairings::Paired;
 use refusals::Outcome;
 use refusals::Refusal;
-use shapes::Paired;
 ghost use mathlib.Core.Path.{_≡_};
 ghost use Prim.Native.Nat.{_+_, _*_, _<_};
 ghost use lib.ListN.{length};
 ghost use Rattle.refusals.specs.Refusals.{figures-of, written};
-ghost use Rattle.listings.specs.Operations.{checked, standardised, split-listing};
+ghost use Rattle.listings.specs.Operations.{checked, standardised};
+ghost use Rattle.splits.specs.Operations.{split-listing};
 ghost use Rattle.counts.specs.Operations.{tabled};
 ghost use Rattle.gaps.specs.Operations.{gapped};
 ghost use Rattle.reconstruct.specs.Operations.{rebuild-answer, guided-answer};
@@ -111,7 +112,7 @@ pub extern "C" fn quartree_splits(n: usize, listing: &[u16], out: &mut [u8]) -> 
     ensures buffer { λ r. ⌜ now (out .exit)
         ≡ written (split-listing n (now (listing .entry)) (length (now (out .entry)))) (now (out .entry)) ⌝ }
 {
-    reply_of(shapes::splits(n, listing, out))
+    reply_of(splits::splits(n, listing, out))
 }
 
 // How the tree that a listing stands for pairs four leaves: 1, 2, 7, 8, 9.
@@ -126,7 +127,7 @@ pub extern "C" fn quartree_pairing(n: usize, listing: &[u16], question: &[u16]) 
         return 2;
     }
     let asked = [question[0], question[1], question[2], question[3]];
-    paired_reply(shapes::pairing(n, listing, asked))
+    paired_reply(pairings::pairing(n, listing, asked))
 }
 
 // The table of the tree that a listing stands for: 1, 2, 3, 7, 8.

@@ -4,8 +4,8 @@ use mathlib.Core.Path.{refl, ap, sym, _∙_}
 use borrow.Author.Needs.{needs}
 use borrow.Author.Tests.{not-true, not-false}
 use Rattle.pairs.specs.Limits.{LeafCount}
-use Rattle.listings.specs.Operations.{pairing-asked}
 use Rattle.listings.proofs.Judged.{counted}
+use Rattle.pairings.specs.Operations.{pairing-asked}
 use Rattle.quartree.specs.Replies.{number-reply}
 use Rattle.quartree.specs.Steps.{paired-reply}
 use Rattle.quartree.proofs.Questions.{four, paired-replied, pairing-small, count-refused, length-refused, asked}

@@ -1,0 +1,4 @@
+pub mod Finds
+pub mod Questions
+pub mod Sights
+pub mod Judging

@@ -1,0 +1,30 @@
+// The splits of a tree, written as leaf sets.
+use refusals::Outcome;
+use refusals::Refusal;
+ghost use mathlib.Core.Path.{_≡_};
+ghost use lib.ListN.{length};
+ghost use Rattle.refusals.specs.Refusals.{outcome, written};
+ghost use Rattle.splits.specs.Operations.{split-listing};
+
+mod sets;
+mod writing;
+
+// Writes the splits of the tree that a listing stands for at the front of `out`, sixteen bytes each.
+pub fn splits(n: usize, listing: &[u16], out: &mut [u8]) -> Outcome
+    ensures answer { λ r. ⌜ r ≡ outcome (split-listing n (now (listing .entry)) (length (now (out .entry)))) ⌝ }
+    ensures buffer { λ r. ⌜ now (out .exit)
+        ≡ written (split-listing n (now (listing .entry)) (length (now (out .entry)))) (now (out .entry)) ⌝ }
+{
+    if !listings::leaf_count(n) {
+        return Outcome::Refused(Refusal::LeafCount);
+    }
+    let judged = listings::judge(n, listing, 16 * (n - 3), out.len());
+    let Outcome::Done = judged else {
+        return judged;
+    };
+    let mut rows = [0u16; 252];
+    listings::standardise(n, listing, &mut rows);
+    let end = 2 * (n - 2);
+    writing::write_splits(n, &rows[..end], out);
+    judged
+}
