@@ -1,14 +1,15 @@
 -- The climb of leaf t: it begins, each merge with a partner adds a row, and it ends where no partner is left. The idea:
 -- a pair of two other subtrees that was not eligible stays so, since no merge touches it.
 use mathlib.Core.Path.{_≡_, refl, sym, ap, _∙_}
-use mathlib.Core.Logic.{inl, inr}
+use mathlib.Core.Logic.{_≢_, inl, inr}
 use mathlib.Core.Bool.{true, false, _||_}
-use mathlib.Core.List.{List}
-use Prim.Native.Nat.{ℕ, _+_, _*_, _≤_, _<_}
+use mathlib.Core.List.{List, [], _∷_, _++_}
+use Prim.Native.Nat.{ℕ, suc, _+_, _*_, _≤_, _<_}
+use native.Mathlib.Numerals.{add-one}
 use native.Mathlib.Omega.{arith}
 use native.Mathlib.Decide.{decLt, ℕ-discrete}
-use lib.ListN.{length, getD, set, length-set}
-use lib.Seq.{take-set-le, getD-set-same, getD-set-other}
+use lib.ListN.{length, getD, set, take, length-set}
+use lib.Seq.{length-take-le, append-snoc, take-suc-set, getD-set-same, getD-set-other}
 use Rattle.base.proofs.Bools.{bool?, never, is-false, or-left, or-none, or-neither}
 use Rattle.pairs.specs.Limits.{most-leaves}
 use Rattle.trees.specs.Trees.{leaves, least, join}
@@ -16,7 +17,7 @@ use Rattle.trees.specs.Listings.{under}
 use Rattle.trees.specs.Tables.{cell}
 use Rattle.trees.proofs.Trees.{leaf-eq, least-in, least-le, leaves-join, join-in-order, least-join}
 use Rattle.trees.proofs.Tables.{halves-equal}
-use Rattle.trees.proofs.Rows.{under-node}
+use Rattle.trees.proofs.Forests.{unused, uses, forest-start, lawful-forest}
 use Rattle.merging.specs.Merging.{State, step}
 use Rattle.merging.proofs.States.{WellFormed, wf-start, step-in, step-out}
 use Rattle.merging.proofs.Runs.{Eligible, wf-go, wf-runs, runs-more, eligible-sym, eligible-move, eligible-back}
@@ -26,7 +27,7 @@ use Rattle.reconstruct.specs.Merged.{Merges, Merged}
 use Rattle.reconstruct.specs.Held.{Holds, Listed, Current, Climbing, Climbed}
 use Rattle.reconstruct.proofs.Held.{is-least, meets-eligible, eligible-meets, fair, two-merges, still}
 use Rattle.reconstruct.proofs.Held.{holds-step}
-use Rattle.reconstruct.proofs.Rows.{under-same}
+use Rattle.reconstruct.proofs.Rows.{row-kept, node-unused, still-unused, under-new, under-old}
 
 -- there is room for one more row
 pub row-room :
@@ -36,102 +37,112 @@ row-room {n} w l i k e =
     let z : 0 < n = omega (arith, e .left) in
     omega (arith, l .counted, subtrees-step w i k e, subtrees-pos (wf-go w i k e) z)
 
--- The rows after a merge of the subtrees labelled i and k, i < k.
+-- The rows after a merge of the subtrees labelled i and k, 0 < i < k.
 module _ {n : ℕ} {S : State} (w : WellFormed n S) {label m sizes names rows : List ℕ} {r : ℕ}
-    (h : Holds n label m sizes S) (l : Listed n label names rows r S) {c : ℕ → ℕ → ℕ} (i k : ℕ) (ik : i < k)
-    (oi : getD label i 0 ≡ i) (ok : getD label k 0 ≡ k) (e : Eligible n 1 c S i k) (few : n ≤ most-leaves)
-    {label′ m′ sizes′ : List ℕ} (d : Merged n label m sizes label′ m′ sizes′ i k) where
+    (h : Holds n label m sizes S) (l : Listed n label names rows r S) {c : ℕ → ℕ → ℕ} (i k : ℕ) (zi : 0 < i)
+    (ik : i < k) (oi : getD label i 0 ≡ i) (ok : getD label k 0 ≡ k) (e : Eligible n 1 c S i k)
+    (few : n ≤ most-leaves) {label′ m′ sizes′ : List ℕ} (d : Merged n label m sizes label′ m′ sizes′ i k) where
   room : r + 2 ≤ n
   room = row-room w l i k e
 
   abbrev names′ : List ℕ
   names′ = set names i (n + r)
 
+  abbrev a : ℕ
+  a = getD names i 0
+
+  abbrev b : ℕ
+  b = getD names k 0
+
   abbrev rows₁ : List ℕ
-  rows₁ = set rows (2 * r) (getD names i 0)
+  rows₁ = set rows (2 * r) a
 
   abbrev rows′ : List ℕ
-  rows′ = set rows₁ (2 * r + 1) (getD names k 0)
+  rows′ = set rows₁ (2 * r + 1) b
 
-  long : length rows′ ≡ 2 * most-leaves
-  long = length-set rows₁ (2 * r + 1) (getD names k 0) ∙ length-set rows (2 * r) (getD names i 0) ∙ l .rows-long
+  abbrev old : List ℕ
+  old = take (2 * r) rows
 
-  before : (x : ℕ) → x < 2 * r → getD rows′ x 0 ≡ getD rows x 0
-  before x lx =
-      getD-set-other rows₁ (2 * r + 1) x (getD names k 0) 0 (omega arith)
-      ∙ getD-set-other rows (2 * r) x (getD names i 0) 0 (omega arith)
+  long : length old ≡ 2 * r
+  long = length-take-le (2 * r) rows (omega (arith, l .rows-long, room))
 
-  first-child : getD rows′ (2 * r) 0 ≡ getD names i 0
-  first-child =
-      getD-set-other rows₁ (2 * r + 1) (2 * r) (getD names k 0) 0 (omega arith)
-      ∙ getD-set-same rows (2 * r) (getD names i 0) 0 (omega (arith, l .rows-long, room))
+  -- the rows written are the old ones and the new one
+  added : take (2 * (r + 1)) rows′ ≡ old ++ (a ∷ b ∷ [])
+  added =
+      let next : 2 * (r + 1) ≡ suc (suc (2 * r)) = omega arith in
+      let inside : suc (2 * r) < length rows₁ = omega (arith, length-set rows (2 * r) a, l .rows-long, room) in
+      rw (next, add-one (2 * r))
+      (take-suc-set rows₁ (suc (2 * r)) b inside
+      ∙ rw (take-suc-set rows (2 * r) a (omega (arith, l .rows-long, room)))
+      (append-snoc old a (b ∷ [])))
 
-  second-child : getD rows′ (2 * r + 1) 0 ≡ getD names k 0
-  second-child =
-      getD-set-same rows₁ (2 * r + 1) (getD names k 0) 0
-      (omega (arith, length-set rows (2 * r) (getD names i 0), l .rows-long, room))
+  -- what the name of a label is, in the old rows; and that two labels have two
+  abbrev Name : ℕ → Type 0
+  Name x = (uses (unused n) n old (getD names x 0) ≡ true) × (under n old (getD names x 0) ≡ S .tree x)
 
-  kept : (v : ℕ) → v < n + r → under n rows′ v ≡ under n rows v
-  kept v lv =
-      under-same n r rows rows′ (omega (arith, l .rows-long, room)) (omega (arith, long, room))
-      (take-set-le (2 * r) rows₁ (2 * r + 1) (getD names k 0) (omega arith)
-      ∙ take-set-le (2 * r) rows (2 * r) (getD names i 0) (omega arith)) v lv
+  name-i : Name i
+  name-i = l .named i zi (e .left) oi
 
-  name-i : (getD names i 0 < n + r) × (under n rows (getD names i 0) ≡ S .tree i)
-  name-i = l .named i (e .left) oi
+  name-k : Name k
+  name-k = l .named k (omega arith) (e .right) ok
 
-  name-k : (getD names k 0 < n + r) × (under n rows (getD names k 0) ≡ S .tree k)
-  name-k = l .named k (e .right) ok
+  below : (x : ℕ) → Name x → getD names x 0 < n + r
+  below x u =
+      lawful-forest (forest-start n (omega (arith, room))) r old long (l .kept) .below (getD names x 0) (u .0)
 
-  new-node : under n rows′ (n + r) ≡ (step S i k) .tree i
+  differ :
+      (x y : ℕ) → x < n → y < n → getD label x 0 ≡ x → getD label y 0 ≡ y → Name x → Name y → x ≢ y
+      → getD names x 0 ≢ getD names y 0
+  differ x y lx ly ox oy u v z q =
+      z (sym (is-least w h x lx ox) ∙ ap least (sym (u .1) ∙ ap (under n old) q ∙ v .1) ∙ is-least w h y ly oy)
+
+  new-node : under n (old ++ (a ∷ b ∷ [])) (n + r) ≡ (step S i k) .tree i
   new-node =
       let less : least (S .tree i) < least (S .tree k) =
       rw (is-least w h i (e .left) oi, is-least w h k (e .right) ok) ik in
-      under-node n rows′ r (omega (arith, long, room)) (rw first-child (name-i .0)) (rw second-child (name-k .0))
-      ∙ rw (
-        first-child,
-        second-child,
-        kept (getD names i 0) (name-i .0),
-        kept (getD names k 0) (name-k .0),
-        name-i .1,
-        name-k .1,
-        step-in S i k i (or-left _ _ (w .own i)),
-      )
+      under-new n r old long a b
+      ∙ rw (name-i .1, name-k .1, step-in S i k i (or-left _ _ (w .own i)))
       (sym (join-in-order (S .tree i) (S .tree k) less))
 
   named′ :
-      (x : ℕ) → x < n → getD label′ x 0 ≡ x
-      → (getD names′ x 0 < n + (r + 1)) × (under n rows′ (getD names′ x 0) ≡ (step S i k) .tree x)
-  named′ x lx o = elim (ℕ-discrete x i) [
+      (x : ℕ) → 0 < x → x < n → getD label′ x 0 ≡ x
+      → (uses (unused n) n (old ++ (a ∷ b ∷ [])) (getD names′ x 0) ≡ true)
+      × (under n (old ++ (a ∷ b ∷ [])) (getD names′ x 0) ≡ (step S i k) .tree x)
+  named′ x zx lx o = elim (ℕ-discrete x i) [
     | yes z ↦
         let own-name = getD-set-same names i (n + r) 0 (omega (arith, l .names-long, e .left)) in
-        rw (z, own-name) (omega arith, new-node)
+        rw (z, own-name) (node-unused n r old long a b, new-node)
     | no z ↦
         let u = still w h i k ik oi ok e few d x lx o z in
-        let v = l .named x lx (u .0) in
-        rw (getD-set-other names i x (n + r) 0 z, u .1) (omega (arith, v .0), kept (getD names x 0) (v .0) ∙ v .1)
+        let v = l .named x zx lx (u .0) in
+        let not-i = differ x i lx (e .left) (u .0) oi v name-i z in
+        let not-k = differ x k lx (e .right) (u .0) ok v name-k (u .1) in
+        rw (getD-set-other names i x (n + r) 0 z, u .2) (
+          still-unused n r old long a b (getD names x 0) (v .0) not-i not-k,
+          under-old n r old long a b (getD names x 0) (below x v) ∙ v .1,
+        )
   ]
 
   pub listed-step : Listed n label′ names′ rows′ (r + 1) (step S i k)
   listed-step = record {
     names-long = length-set names i (n + r) ∙ l .names-long;
-    rows-long = long;
-    named = named′;
-    earlier = λ x lx. elim (ℕ-discrete x r) [
-      | yes z ↦ rw (z, first-child, second-child) (name-i .0, name-k .0)
-      | no z ↦ rw (before (2 * x) (omega arith), before (2 * x + 1) (omega arith)) (l .earlier x (omega arith))
-    ];
+    rows-long = length-set rows₁ (2 * r + 1) b ∙ length-set rows (2 * r) a ∙ l .rows-long;
+    kept =
+        let apart-names = differ i k (e .left) (e .right) oi ok name-i name-k (omega arith) in
+        rw added (row-kept n r old long a b (l .kept) (name-i .0) (name-k .0) apart-names);
+    named = rw added named′;
     counted = omega (arith, l .counted, subtrees-step w i k e);
   }
 
 -- A climb begins: the leaf is its own subtree.
 pub begin :
     {n : ℕ} {table label m sizes names rows : List ℕ} {r t : ℕ}
-    → Climbed n table label m sizes names rows r (t + 1) → Climbing n table label m sizes names rows r t
-begin {t = t} b = record {
+    → 0 < t → Climbed n table label m sizes names rows r (t + 1) → Climbing n table label m sizes names rows r t
+begin {t = t} z b = record {
   state = b .state;
   forest = b .forest;
   current = record {
+    positive = z;
     low = λ k l. b .done .low k (omega arith);
     own = rw (b .done .low t (omega arith)) (unfold least in refl);
     spent = λ x y lx ly p q e. b .done .spent x y (omega arith) (omega arith) e;
@@ -183,6 +194,7 @@ module _ {n : ℕ} {table p label m sizes names rows : List ℕ} {r t : ℕ} (g 
 
     current-step : Current n table t (step (b .state) t k)
     current-step = record {
+      positive = b .current .positive;
       low = λ x l. step-out (b .state) t k x (low-out x l) ∙ b .current .low x l;
       own = rw joined (least-join (b .state .tree t) (b .state .tree k) less ∙ b .current .own);
       spent = λ x y lx ly px py e.
@@ -210,7 +222,7 @@ module _ {n : ℕ} {table p label m sizes names rows : List ℕ} {r t : ℕ} (g 
     climb-step d en er =
         let h = b .forest .holds in
         let few = g .leaf-count .1 in
-        let l = listed-step w h (b .forest .listed) t k tk own-label ok pair few d in
+        let l = listed-step w h (b .forest .listed) t k (b .current .positive) tk own-label ok pair few d in
         record {
           state = step (b .state) t k;
           forest = record {

@@ -2,37 +2,39 @@
 -- have climbed, one test says whether the tree is there, to which our own rebuild's result is tied by `Rooted`.
 use mathlib.Core.Path.{_≡_, refl, sym, ap, _∙_}
 use mathlib.Core.Bool.{true, false, _||_}
-use mathlib.Core.List.{List, _++_}
+use mathlib.Core.List.{List, []}
 use Prim.Native.Nat.{ℕ, _+_, _-_, _*_, _≤_, _<_}
-use native.Mathlib.Nat.{zero-mul, zero-add, add-zero}
+use native.Mathlib.Nat.{zero-mul, zero-add}
 use native.Mathlib.Omega.{arith}
 use native.Mathlib.Decide.{ℕ-discrete}
-use lib.ListN.{length, getD, drop, replicate, getD-replicate}
-use lib.Seq.{sets, sets-eq}
+use lib.ListN.{length, getD, take, replicate, getD-replicate}
+use lib.Seq.{length-take-le}
 use Rattle.refusals.specs.declared.Refusal.the-variants.{NoTree}
-use Rattle.refusals.specs.declared.Outcome.the-variants.{Done, Refused}
+use Rattle.refusals.specs.declared.Outcome.the-variants.{Refused}
 use Rattle.base.specs.Lists.{filled}
 use Rattle.base.proofs.Bools.{or-left, or-right, is-false, never}
 use Rattle.base.proofs.Filling.{length-filled, getD-filled}
 use Rattle.pairs.specs.Limits.{most-leaves, LeafCount}
 use Rattle.pairs.specs.Pairs.{P}
 use Rattle.pairs.proofs.Pairs.{P-zero}
-use Rattle.refusals.specs.Refusals.{accepted, refused, outcome, written}
+use Rattle.refusals.specs.Refusals.{refused, answered, outcome, written}
 use Rattle.trees.specs.Trees.{leaf, leaves, size, least}
-use Rattle.trees.specs.Listings.{under, post-order}
+use Rattle.trees.specs.Listings.{tree-of}
 use Rattle.trees.specs.Tables.{cell, IsTable}
 use Rattle.trees.proofs.Trees.{leaf-eq, least-in, least-le}
-use Rattle.trees.proofs.Blocks.{post-order-length}
+use Rattle.trees.proofs.Forests.{unused, uses, lawful, unused-is, last-alone}
+use Rattle.trees.proofs.Rules.{of-lawful}
 use Rattle.trees.proofs.Rows.{under-leaf}
+use Rattle.listings.specs.Operations.{standardised}
+use Rattle.listings.proofs.Judged.{rules-left}
 use Rattle.merging.specs.Merging.{start}
 use Rattle.merging.specs.Rebuilds.{rebuilt}
 use Rattle.merging.proofs.States.{WellFormed, wf-start, full-sizes}
 use Rattle.merging.proofs.Runs.{halt, wf-runs}
 use Rattle.merging.proofs.Values.{m-pairs}
 use Rattle.merging.proofs.MergeLists.{subtrees-start}
-use Rattle.merging.proofs.Rooted.{Rooted, rooted-result, rooted-refused}
+use Rattle.merging.proofs.Rooted.{Rooted, rooted-result, rooted-two, rooted-refused}
 use Rattle.reconstruct.specs.Held.{Holds, Listed, Climbed, Fresh, Whole}
-use Rattle.reconstruct.specs.Emitted.{Emits, Emitted}
 use Rattle.reconstruct.proofs.Held.{in-label}
 
 -- Single leaves: the arrays as they are made, with each leaf's own label and its own number.
@@ -59,12 +61,12 @@ module _ (n : ℕ) (few : n ≤ most-leaves) where
   listed-start :
       {label names rows : List ℕ} → names ≡ filled n (λ k. k) (replicate most-leaves 0)
       → rows ≡ replicate (2 * most-leaves) 0 → Listed n label names rows 0 start
-  unfolding start
+  unfolding start lawful uses
   listed-start e z = record {
     names-long = filled-long e;
     rows-long = rw z;
-    named = λ k l o. rw (filled-own e k l) (omega arith, under-leaf n _ k l);
-    earlier = λ k l. absurd (omega arith);
+    kept = refl;
+    named = λ k p l o. rw (filled-own e k l) (unused-is n k p l, under-leaf n [] k l);
     counted = omega (arith, subtrees-start n);
   }
 
@@ -175,48 +177,36 @@ module _ {n : ℕ} {table label m sizes names rows : List ℕ} {r : ℕ} (count 
       rooted-refused n 1 big (omega arith) table is-table (b .forest .came) zero (λ i j. b .done .spent i j)
       (λ o. deny (rooted-whole o))
 
-  pub the-tree : Whole n table label m → rebuilt n 1 table ≡ accepted (post-order (b .state .tree 1) n)
-  the-tree q = rooted-result n 1 big (omega arith) table is-table (b .forest .came) zero (whole-rooted q)
+  -- The listing: the rows keep the rules, and the subtree of leaf 1 stands under their last node.
+  module _ (q : Whole n table label m) where
+    abbrev rows-made : List ℕ
+    rows-made = take (2 * (n - 2)) rows
 
-  -- The listing: what the subtree of leaf 1 is called in the rows, and what is written of it.
-  module _ (q : Whole n table label m) {v : ℕ} (ev : v ≡ getD names 1 0) (out : List ℕ)
-      (room : 2 * (n - 2) ≤ length out) where
-    own-one : getD label 1 0 ≡ 1
-    own-one = (q 1 (omega (arith, big)) (omega arith)) .0
+    made : r ≡ n - 2
+    made =
+        let two = rooted-two n 1 big (omega arith) table is-table (b .forest .came) zero (whole-rooted q) in
+        omega (arith, two, b .forest .listed .counted)
 
-    name : (v < n + r) × (under n rows v ≡ b .state .tree 1)
-    name = rw ev (b .forest .listed .named 1 (omega (arith, big)) own-one)
+    rows-long : length rows-made ≡ 2 * (n - 2)
+    rows-long = length-take-le (2 * (n - 2)) rows (omega (arith, b .forest .listed .rows-long, count .1))
 
-    top-size : size (b .state .tree 1) + 1 ≡ n
-    top-size = omega (arith, sum-size (whole-rooted q .all), zero-size)
+    lawful-rows : lawful (unused n) n rows-made ≡ true
+    lawful-rows = rw made at (b .forest .listed .kept)
 
-    pub emits-top : Emits n rows v 0 out
-    emits-top =
-        let e : size (under n rows v) + 1 ≡ n = rw (name .1) top-size in
-        record {
-          leaf-count = count;
-          rows-long = b .forest .listed .rows-long;
-          inside = omega (arith, name .0, b .forest .listed .counted, count .1);
-          earlier = λ k h. b .forest .listed .earlier k (omega (arith, name .0));
-          below = omega (arith, e);
-          room = omega (arith, e, room);
-        }
+    top-tree : tree-of n rows-made ≡ b .state .tree 1
+    unfolding tree-of
+    top-tree =
+        let own-one = (q 1 (omega (arith, big)) (omega arith)) .0 in
+        let name = rw made at (b .forest .listed .named 1 (omega arith) (omega (arith, big)) own-one) in
+        rw (← last-alone n rows-made big rows-long lawful-rows (getD names 1 0) (name .0)) (name .1)
 
-    -- so the answer and the buffer are as the definition says
-    pub answered-top :
-        {out′ : List ℕ} {s : ℕ} → Emitted n rows v 0 out out′ s
-        → (Done ≡ outcome (rebuilt n 1 table)) × (out′ ≡ written (rebuilt n 1 table) out)
-    unfolding outcome written
-    answered-top d = (
-      rw (the-tree q),
-      rw (the-tree q) (d .written ∙ rw (name .1, add-zero n) (rw (zero-add (length listing)) at front)),
-    )
-      where
-        listing : List ℕ
-        listing = post-order (b .state .tree 1) n
-
-        front : sets out 0 listing ≡ listing ++ drop (0 + length listing) out
-        front = sets-eq listing out 0 (omega (arith, post-order-length (b .state .tree 1) n, top-size, room))
+    -- so its standard listing is what our own rebuild answers
+    pub standard-rebuilt : (room : ℕ) → 2 * (n - 2) ≤ room → standardised n rows-made room ≡ rebuilt n 1 table
+    unfolding standardised answered
+    standard-rebuilt room enough =
+        let keeps = of-lawful n (omega (arith, big)) rows-made lawful-rows in
+        rw (rules-left n rows-made (2 * (n - 2)) room count rows-long enough ∙ keeps, top-tree)
+        (sym (rooted-result n 1 big (omega arith) table is-table (b .forest .came) zero (whole-rooted q)))
 
   pub answered-none :
       (Whole n table label m → ⊥) → (out : List ℕ)

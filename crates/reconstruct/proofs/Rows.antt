@@ -1,25 +1,48 @@
--- Rows in an array: what stands under a number depends on the rows before it alone, so rows may be added.
-use mathlib.Core.Path.{_≡_, sym, ap, _∙_}
-use mathlib.Core.List.{List}
-use Prim.Native.Nat.{ℕ, _+_, _*_, _≤_, _<_}
-use lib.ListN.{length, take, drop, take-append-drop}
-use lib.Seq.{length-take-le}
-use Rattle.trees.specs.Trees.{leaf}
+-- A row added after lawful rows, of two numbers that these have not used: the rows stay lawful, its node is not used, and
+-- under the numbers before it stands what stood there.
+use mathlib.Core.Path.{_≡_, refl}
+use mathlib.Core.Logic.{_≢_}
+use mathlib.Core.Bool.{true}
+use mathlib.Core.List.{List, [], _∷_, _++_}
+use Prim.Native.Nat.{ℕ, _+_, _*_, _<_}
+use borrow.Author.Tests.{ne-eqb}
+use lib.Dec.{eqb}
+use lib.ListN.{length}
+use Rattle.base.proofs.Bools.{or-left, or-right, eqb-same}
+use Rattle.trees.specs.Trees.{leaf, node}
 use Rattle.trees.specs.Listings.{with-rows, under}
-use Rattle.trees.proofs.Blocks.{with-rows-append}
+use Rattle.trees.proofs.Forests.{unused, use-row, uses, lawful, lawful-row}
 use Rattle.trees.proofs.Rows.{rows-old}
+use Rattle.trees.proofs.Blocks.{with-rows-append, uses-append, lawful-append}
 
--- under a number before that of row q, the first q rows count alone
-under-first :
-    (n : ℕ) (rows : List ℕ) (q : ℕ) → 2 * q ≤ length rows → (v : ℕ) → v < n + q
-    → under n rows v ≡ under n (take (2 * q) rows) v
-unfolding under
-under-first n rows q h v l =
-    ap (λ l. with-rows leaf n l v) (sym (take-append-drop (2 * q) rows))
-    ∙ rw (with-rows-append leaf n q (take (2 * q) rows) (drop (2 * q) rows) (length-take-le (2 * q) rows h))
-    (rows-old _ (n + q) (drop (2 * q) rows) v l)
+module _ (n r : ℕ) (l : List ℕ) (long : length l ≡ 2 * r) (a b : ℕ) where
+  abbrev row : List ℕ
+  row = a ∷ b ∷ []
 
-pub under-same :
-    (n q : ℕ) (rows rows′ : List ℕ) → 2 * q ≤ length rows → 2 * q ≤ length rows′
-    → take (2 * q) rows′ ≡ take (2 * q) rows → (v : ℕ) → v < n + q → under n rows′ v ≡ under n rows v
-under-same n q rows rows′ h h′ e v l = under-first n rows′ q h′ v l ∙ rw e (sym (under-first n rows q h v l))
+  pub row-kept :
+      lawful (unused n) n l ≡ true → uses (unused n) n l a ≡ true → uses (unused n) n l b ≡ true → a ≢ b
+      → lawful (unused n) n (l ++ row) ≡ true
+  row-kept h la lb d =
+      lawful-append (unused n) n r l row long h
+      (lawful-row (uses (unused n) n l) (n + r) a b [] la lb d (unfold lawful in refl))
+
+  after-row : (v : ℕ) → uses (unused n) n (l ++ row) v ≡ use-row (uses (unused n) n l) (n + r) a b v
+  unfolding uses
+  after-row v = rw (uses-append (unused n) n r l row long)
+
+  pub node-unused : uses (unused n) n (l ++ row) (n + r) ≡ true
+  unfolding use-row
+  node-unused = rw (after-row (n + r)) (or-left _ _ (eqb-same (n + r)))
+
+  pub still-unused :
+      (v : ℕ) → uses (unused n) n l v ≡ true → v ≢ a → v ≢ b → uses (unused n) n (l ++ row) v ≡ true
+  unfolding use-row
+  still-unused v h x y = rw (after-row v, h, ne-eqb v a x, ne-eqb v b y) (or-right (eqb v (n + r)) _ refl)
+
+  pub under-new : under n (l ++ row) (n + r) ≡ node (under n l a) (under n l b)
+  unfolding under with-rows
+  under-new = rw (with-rows-append leaf n r l row long, eqb-same (n + r))
+
+  pub under-old : (v : ℕ) → v < n + r → under n (l ++ row) v ≡ under n l v
+  unfolding under
+  under-old v h = rw (with-rows-append leaf n r l row long) (rows-old _ (n + r) row v h)

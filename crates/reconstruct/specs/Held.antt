@@ -1,13 +1,14 @@
 -- What the arrays of a rebuild stand for: a state that merging reaches, and rows for the subtrees in it.
 use mathlib.Core.Path.{_≡_}
-use mathlib.Core.Bool.{false}
+use mathlib.Core.Bool.{true, false}
 use mathlib.Core.List.{List}
 use Prim.Native.Nat.{ℕ, _+_, _*_, _≤_, _<_}
-use lib.ListN.{length, getD, replicate}
+use lib.ListN.{length, getD, take, replicate}
 use Rattle.pairs.specs.Limits.{most-leaves}
 use Rattle.trees.specs.Trees.{leaf, leaves, size, least}
 use Rattle.trees.specs.Listings.{under}
 use Rattle.trees.specs.Tables.{cell}
+use Rattle.trees.proofs.Forests.{unused, uses, lawful}
 use Rattle.merging.specs.Merging.{State, start}
 use Rattle.merging.specs.MergeLists.{subtrees}
 use Rattle.merging.proofs.Runs.{Eligible, Runs}
@@ -21,19 +22,22 @@ pub record Holds (n : ℕ) (label m sizes : List ℕ) (S : State) : Type 0 where
   pub sums : (k : ℕ) → k < n → getD m k 0 ≡ S .m k
   pub sized : (k : ℕ) → k < n → getD label k 0 ≡ k → getD sizes k 0 ≡ size (S .tree k)
 
--- r rows are written, one for each merge so far: the name of a label is the number of its subtree in them
+-- r rows are written, one for each merge so far, and they are lawful: the name of a label but 0 is a number that they
+-- have not used, with its subtree under it
 pub record Listed (n : ℕ) (label names rows : List ℕ) (r : ℕ) (S : State) : Type 0 where
   pub names-long : length names ≡ most-leaves
   pub rows-long : length rows ≡ 2 * most-leaves
+  pub kept : lawful (unused n) n (take (2 * r) rows) ≡ true
   pub named :
-      (k : ℕ) → k < n → getD label k 0 ≡ k
-      → (getD names k 0 < n + r) × (under n rows (getD names k 0) ≡ S .tree k)
-  pub earlier : (k : ℕ) → k < r → (getD rows (2 * k) 0 < n + k) × (getD rows (2 * k + 1) 0 < n + k)
+      (k : ℕ) → 0 < k → k < n → getD label k 0 ≡ k
+      → (uses (unused n) n (take (2 * r) rows) (getD names k 0) ≡ true)
+      × (under n (take (2 * r) rows) (getD names k 0) ≡ S .tree k)
   pub counted : r + subtrees n S ≡ n
 
--- leaf t's subtree is the current one: leaves below t are single, t is its least leaf, and no two of the other subtrees
--- are eligible
+-- leaf t's subtree, not leaf 0's, is the current one: leaves below t are single, t is its least leaf, and no two of the
+-- other subtrees are eligible
 pub record Current (n : ℕ) (table : List ℕ) (t : ℕ) (S : State) : Type 0 where
+  pub positive : 0 < t
   pub low : (k : ℕ) → k < t → S .tree k ≡ leaf k
   pub own : least (S .tree t) ≡ t
   pub spent :

@@ -16,7 +16,6 @@ ghost use Rattle.reconstruct.specs.Operations.{rebuild-answer, proposals
 ghost use Rattle.reconstruct.specs.Fits.{off, off-at, Fits, Meets, Small, Given, Fair, Two, Joins, Partner};
 ghost use Rattle.reconstruct.specs.Merged.{relabelled, growth, Gathered, Merges, Merged};
 ghost use Rattle.reconstruct.specs.Held.{Climbed, ClimbedAll, Fresh, Whole};
-ghost use Rattle.reconstruct.specs.Emitted.{number-before, Emits, Emitted};
 ghost use Rattle.reconstruct.specs.Proposals.{Stands, Standing, Labels, Proposed, Stopped};
 use refusals::Outcome;
 use refusals::Refusal;
@@ -290,7 +289,7 @@ fn climb(
     t: usize,
     made: usize,
 ) -> usize
-    requires { ⌜ Given n (now table) (now p) × (t < n)
+    requires { ⌜ Given n (now table) (now p) × (0 < t) × (t < n)
         × Climbed n (now table) (now label) (now m) (now sizes) (now names) (now rows) made (t + 1) ⌝ }
     ensures { λ r. ⌜ Climbed n (now (table .entry)) (now (label .exit)) (now (m .exit)) (now (sizes .exit))
         (now (names .exit)) (now (rows .exit)) r t ⌝ }
@@ -377,59 +376,6 @@ fn wide16(x: u16) -> usize
     x as usize
 }
 
-// The number of the child `v` in a listing, if its rows end before row s.
-fn number(n: usize, v: usize, s: usize) -> u16
-    requires { ⌜ (1 ≤ n) × (n ≤ most-leaves) × (s ≤ most-leaves) ⌝ }
-    ensures { λ r. ⌜ r ≡ number-before n v s ⌝ }
-{
-    if v < n {
-        return v as u16;
-    }
-    (n + s - 1) as u16
-}
-
-// The two children of the node `v`.
-fn first_child(n: usize, rows: &[u16; 2 * MOST], v: usize) -> usize
-    requires { ⌜ (n ≤ v) × (v < n + most-leaves) × (n ≤ most-leaves) ⌝ }
-    ensures { λ r. ⌜ r ≡ getD (now (rows .entry)) (2 * (v - n)) 0 ⌝ }
-{
-    wide16(rows[2 * (v - n)])
-}
-
-fn second_child(n: usize, rows: &[u16; 2 * MOST], v: usize) -> usize
-    requires { ⌜ (n ≤ v) × (v < n + most-leaves) × (n ≤ most-leaves) ⌝ }
-    ensures { λ r. ⌜ r ≡ getD (now (rows .entry)) (2 * (v - n) + 1) 0 ⌝ }
-{
-    wide16(rows[2 * (v - n) + 1])
-}
-
-// The row of a node, whose children `a` and `b` have their rows before row `sa` and before row `sb`. The next row.
-fn put_row(n: usize, out: &mut [u16], a: usize, sa: usize, b: usize, sb: usize) -> usize
-    requires { ⌜ (1 ≤ n) × (n ≤ most-leaves) × (sa ≤ sb) × (sb < most-leaves) × (2 * sb + 1 < length (now out)) ⌝ }
-    ensures { λ r. ⌜ (r ≡ sb + 1)
-        × (now (out .exit)
-        ≡ set (set (now (out .entry)) (2 * sb) (number-before n a sa)) (2 * sb + 1) (number-before n b sb)) ⌝ }
-{
-    out[2 * sb] = number(n, a, sa);
-    out[2 * sb + 1] = number(n, b, sb);
-    sb + 1
-}
-
-// The rows of the subtree under `v`, in post-order from row s of the listing on. The next row after them.
-fn emit(n: usize, rows: &[u16; 2 * MOST], v: usize, s: usize, out: &mut [u16]) -> usize
-    requires { ⌜ Emits n (now rows) v s (now out) ⌝ }
-    ensures { λ r. ⌜ Emitted n (now (rows .entry)) v s (now (out .entry)) (now (out .exit)) r ⌝ }
-{
-    if v < n {
-        return s;
-    }
-    let a = first_child(n, rows, v);
-    let b = second_child(n, rows, v);
-    let sa = emit(n, rows, a, s, out);
-    let sb = emit(n, rows, b, sa, out);
-    put_row(n, out, a, sa, b, sb)
-}
-
 // Our own rebuild of a table that has passed the checks placed before 6: the standard listing of the tree that has the
 // table, at the front of `out`; or 6, with `out` as it was.
 fn rebuild_checked(n: usize, table: &[u32], out: &mut [u16]) -> Outcome
@@ -454,8 +400,8 @@ fn rebuild_checked(n: usize, table: &[u32], out: &mut [u16]) -> Outcome
     if !whole(n, table, &label, &m) {
         return Outcome::Refused(Refusal::NoTree);
     }
-    emit(n, &rows, wide16(names[1]), 0, out);
-    Outcome::Done
+    let end = 2 * (n - 2);
+    listings::standardise(n, &rows[..end], out)
 }
 
 // The proposal to merge the subtrees labelled `a` and `b`: whether these are two, and eligible. If so, they are merged.

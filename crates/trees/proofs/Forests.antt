@@ -224,32 +224,31 @@ last-live live r m (a ∷ b ∷ l) e h =
     (last-live (use-row live r a b) (suc r) (m - 1) l (omega arith)
     (rw new (unfold use-row in or-left _ _ (eqb-same r))))
 
--- n − 2 lawful rows: the last node is a tree on the leaves 1 to n − 1, each once
-pub lawful-tree :
-    (n : ℕ) (l : List ℕ) → 3 ≤ n → length l ≡ 2 * (n - 2) → lawful (unused n) n l ≡ true → OnLeaves n (tree-of n l)
-unfolding tree-of under
-lawful-tree n l big e h = record {
-  distinct = w .distinct top live;
-  has = λ x z lx. (let k = w .holds x z lx in rw (alone (k .0) (k .1)) at (k .2));
-  only = λ x p. w .only top x live p;
-}
-  where
-    top : ℕ
-    top = 2 * n - 3
+-- n − 2 lawful rows leave one item, the last node: a tree on the leaves 1 to n − 1, each once
+module _ (n : ℕ) (l : List ℕ) (big : 3 ≤ n) (e : length l ≡ 2 * (n - 2)) (h : lawful (unused n) n l ≡ true) where
+  abbrev top : ℕ
+  top = 2 * n - 3
 
-    top-is : n + (n - 2) - 1 ≡ top
-    top-is = omega arith
+  w : Forest n (n + (n - 2)) (with-rows leaf n l) (uses (unused n) n l)
+  w = lawful-forest (forest-start n (omega arith)) (n - 2) l e h
 
-    w : Forest n (n + (n - 2)) (with-rows leaf n l) (uses (unused n) n l)
-    w = lawful-forest (forest-start n (omega arith)) (n - 2) l e h
+  live : uses (unused n) n l top ≡ true
+  live =
+      let top-is : n + (n - 2) - 1 ≡ top = omega arith in
+      rw top-is at (last-live (unused n) n (n - 2) l e (unused-is n (n - 1) (omega arith) (omega arith)))
 
-    live : uses (unused n) n l top ≡ true
-    live = rw top-is at (last-live (unused n) n (n - 2) l e (unused-is n (n - 1) (omega arith) (omega arith)))
+  pub last-alone : (k : ℕ) → uses (unused n) n l k ≡ true → k ≡ 2 * n - 3
+  last-alone k g = elim (ℕ-discrete k top) [
+    | yes q ↦ q
+    | no q ↦
+        let two = count-two (n + (n - 2)) (uses (unused n) n l) k top (w .below k g) (w .below top live) g live q in
+        absurd (omega (arith, two, w .number))
+  ]
 
-    alone : (k : ℕ) → uses (unused n) n l k ≡ true → k ≡ top
-    alone k g = elim (ℕ-discrete k top) [
-      | yes q ↦ q
-      | no q ↦
-          let two = count-two (n + (n - 2)) (uses (unused n) n l) k top (w .below k g) (w .below top live) g live q in
-          absurd (omega (arith, two, w .number))
-    ]
+  pub lawful-tree : OnLeaves n (tree-of n l)
+  unfolding tree-of under
+  lawful-tree = record {
+    distinct = w .distinct top live;
+    has = λ x z lx. (let k = w .holds x z lx in rw (last-alone (k .0) (k .1)) at (k .2));
+    only = λ x p. w .only top x live p;
+  }

@@ -68,7 +68,7 @@ unfolding under
 under-leaf n l k h = rows-old leaf n l k h
 
 -- the node of row k joins what stands under its children, where these come before it
-pub under-node :
+under-node :
     (n : ℕ) (l : List ℕ) (k : ℕ) → 2 * k + 1 < length l → getD l (2 * k) 0 < n + k → getD l (2 * k + 1) 0 < n + k
     → under n l (n + k) ≡ node (under n l (getD l (2 * k) 0)) (under n l (getD l (2 * k + 1) 0))
 unfolding under

@@ -18,13 +18,13 @@ abbrev μ-loop : tie.MeasureT-loop
 partner-requires : tie.Need-partner-requires Inv-loop μ-loop
 partner-requires c κs =
     let s = c .before .before .before .before in
-    let b = begin (s .pre .2) in
-    (climbing-fair (s .pre .0) b (s .pre .1), own-label (s .pre .0) b (s .pre .1), s .pre .1)
+    let b = begin (s .pre .1) (s .pre .3) in
+    (climbing-fair (s .pre .0) b (s .pre .2), own-label (s .pre .0) b (s .pre .2), s .pre .2)
 
 loop-holds : tie.Need-loop-holds Inv-loop μ-loop
 loop-holds c =
     let s = c .before .before .before .before .before in
-    (s .pre .0, s .pre .1, begin (s .pre .2), c .partner .ensures)
+    (s .pre .0, s .pre .2, begin (s .pre .1) (s .pre .3), c .partner .ensures)
 
 merge-requires : tie.Need-merge-requires Inv-loop μ-loop
 merge-requires c κs =

@@ -25,7 +25,7 @@ climb-requires c κs =
     let before = c .before .before .before .before .before .before in
     let l = before .loop in
     let e : l .t - 1 + 1 ≡ l .t = omega arith in
-    (before .before .before .pre .0, omega (arith, l .inv .1), rw e (l .inv .2))
+    (before .before .before .pre .0, omega arith, omega (arith, l .inv .1), rw e (l .inv .2))
 
 loop-less : tie.Need-loop-less Inv-loop μ-loop
 loop-less c = search needs
