@@ -167,7 +167,7 @@ static inline const char *quartree_refusal_text(unsigned number)
    - Pointers are aligned for their element type.
    - An output overlaps no input of the same call. Inputs may overlap. An output may hold anything before the call.
    - While a call runs, nobody else writes its inputs, or reads or writes its output.
-   - The stack has 131,072 bytes left. (The most that was measured is 96,192, in quartree_gap.)
+   - The stack has 131,072 bytes left. (The most that was measured is 96,256, in quartree_gap.)
 
    ---- What every call promises ---------------------------------------------------------------------------------------
 

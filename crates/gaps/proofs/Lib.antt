@@ -2,3 +2,4 @@ pub mod Fronts
 pub mod Signed
 pub mod Gaps
 pub mod Judging
+pub mod GapLaws
