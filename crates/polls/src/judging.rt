@@ -5,7 +5,7 @@ use refusals::Refusal;
 ghost use mathlib.Core.Path.{_≡_};
 ghost use Prim.Native.Nat.{_≤_};
 ghost use Rattle.refusals.specs.Refusals.{outcome-of};
-ghost use Rattle.polls.specs.Records.{fewest-polled, most-polled, records-due, is-of, bad-record};
+ghost use Rattle.polls.specs.Records.{fewest-polled, most-polled, records-due, bad-record};
 ghost use Rattle.polls.specs.Operations.{bad-sizes};
 ghost use Rattle.polls.specs.Steps.{Leaves, next-of};
 
@@ -60,27 +60,15 @@ pub(crate) fn wide(x: u8) -> usize
     x as usize
 }
 
-// The leaves of the record are those of q.
-fn is_due(q: Quartet, r: Record) -> bool
-    ensures { λ b. ⌜ b ≡ is-of q r ⌝ }
-{
-    if wide(r.a) != q.a {
-        return false;
-    }
-    if wide(r.b) != q.b {
-        return false;
-    }
-    if wide(r.c) != q.c {
-        return false;
-    }
-    wide(r.d) == q.d
-}
-
 // Record k, where q is due: 10 before 11.
 pub(crate) fn judge_record(k: usize, q: Quartet, r: Record) -> Outcome
     ensures { λ o. ⌜ o ≡ outcome-of (bad-record k q r) ⌝ }
 {
-    if !is_due(q, r) {
+    let a = wide(r.a) == q.a;
+    let b = wide(r.b) == q.b;
+    let c = wide(r.c) == q.c;
+    let d = wide(r.d) == q.d;
+    if !(a & (b & (c & d))) {
         return Outcome::Refused(Refusal::Record(k));
     }
     if 3 < r.code {

@@ -2,9 +2,25 @@
 use native.Mathlib.Omega.{arith}
 use borrow.Author.Needs.{needs}
 use Rattle.polls.specs.Counts.{of-code}
-use Rattle.polls.proofs.Sums.{grown-resolved, grown-unresolved}
+use Rattle.polls.specs.Steps.{Leaves}
+use Rattle.polls.proofs.Sums.{with-second, with-third, with-fourth, grown-resolved, grown-unresolved}
 use Rattle.polls.proofs.adding.add_record.Statement.{statement}
 use Rattle.polls.proofs.adding.add_record.Tie as tie
+
+-- the leaves of the record, as they were widened
+leaves :
+    (c : tie.After-wide4)
+    → let third = c .before in
+    let second = third .before in
+    let first = second .before in
+    Leaves (first .before .args .n) (first .wide .result) (second .wide2 .result) (third .wide3 .result)
+    (c .wide4 .result)
+leaves c =
+    let third = c .before in
+    let second = third .before in
+    let first = second .before in
+    rw (first .wide .ensures, second .wide2 .ensures, third .wide3 .ensures, c .wide4 .ensures)
+    (first .before .pre .0)
 
 wide-requires : tie.Need-wide-requires
 wide-requires c κs = search needs
@@ -19,7 +35,10 @@ wide-requires-4 : tie.Need-wide-requires-4
 wide-requires-4 c κs = search needs
 
 add-pairs-requires : tie.Need-add-pairs-requires
-add-pairs-requires c κs = search needs
+add-pairs-requires c κs =
+    let four = c .before .before in
+    let pre = four .before .before .before .before .pre in
+    (with-second (leaves four), pre .1, pre .2, pre .3)
 
 returns : tie.Need-returns
 unfolding of-code
@@ -37,7 +56,10 @@ returns c =
     )
 
 add-pairs-requires-2 : tie.Need-add-pairs-requires-2
-add-pairs-requires-2 c κs = search needs
+add-pairs-requires-2 c κs =
+    let four = c .before .before .before in
+    let pre = four .before .before .before .before .pre in
+    (with-third (leaves four), pre .1, pre .2, pre .3)
 
 returns-2 : tie.Need-returns-2
 unfolding of-code
@@ -55,7 +77,10 @@ returns-2 c =
     )
 
 add-pairs-requires-3 : tie.Need-add-pairs-requires-3
-add-pairs-requires-3 c κs = search needs
+add-pairs-requires-3 c κs =
+    let four = c .before .before .before .before in
+    let pre = four .before .before .before .before .pre in
+    (with-fourth (leaves four), pre .1, pre .2, pre .3)
 
 returns-3 : tie.Need-returns-3
 unfolding of-code

@@ -36,10 +36,12 @@ enum-told-4 c = search needs
 
 returns-2 : tie.Need-returns-2
 returns-2 c =
-    let told = c .before .before .before .before .before in
+    let after = c .before .before in
+    let told = after .before .before .before in
     let s = told .before .before in
-    let a = s .args in (
-      cc (taken-done (a .n) (a .k) (a .s) (a .r) (told .enum-told .given .1)),
+    let a = s .args in
+    let done = taken-done (a .n) (a .k) (a .s) (a .r) (told .enum-told .given .1) in (
+      rw (after .before .judge-record .ensures, after .next .ensures) (sym done),
       s .pre .0,
       λ d. absurd (not-done (c .enum-told4 .given .1) d),
     )
@@ -57,10 +59,12 @@ add-record-requires c κs =
 
 returns-3 : tie.Need-returns-3
 returns-3 c =
-    let told = c .before .before .before .before .before .before .before in
+    let after = c .before .before .before .before in
+    let told = after .before .before .before in
     let a = told .before .before .args in
+    let done = taken-done (a .n) (a .k) (a .s) (a .r) (told .enum-told .given .1) in
     let g = c .add-record .ensures in
-    (cc (taken-done (a .n) (a .k) (a .s) (a .r) (told .enum-told .given .1)), g .0, λ d. g .1)
+    (rw (after .before .judge-record .ensures, after .next .ensures) (sym done), g .0, λ d. g .1)
 
 pub take-spec : {M : Type 1} → statement M
 take-spec =
