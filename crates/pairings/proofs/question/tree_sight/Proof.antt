@@ -1,4 +1,5 @@
--- `pairings::question::tree_sight` meets its contract: before row k the array holds what every number below n + k shows.
+-- `pairings::question::tree_sight` meets its contract: before row k the array holds what every number below n + k
+-- shows.
 use mathlib.Core.Path.{_≡_}
 use mathlib.Core.List.{List}
 use Prim.Native.Nat.{ℕ, _+_, _*_, _<_, _≤_, _-_}

@@ -1,5 +1,5 @@
--- `reconstruct::climbing::rebuild_checked` meets its contract: the climbs end with the tree, if there is one, and then their rows
--- are a listing of it.
+-- `reconstruct::climbing::rebuild_checked` meets its contract: the climbs end with the tree, if there is one, and then
+-- their rows are a listing of it.
 use mathlib.Core.Path.{ap, sym, _∙_}
 use native.Mathlib.Omega.{arith}
 use denote.Ref.{now}
