@@ -25,8 +25,6 @@ use Rattle.trees.proofs.Trees.{leaf-eq, least-in, least-le}
 use Rattle.trees.proofs.Forests.{unused, uses, lawful, unused-is, last-alone}
 use Rattle.trees.proofs.Rules.{of-lawful}
 use Rattle.trees.proofs.Rows.{under-leaf}
-use Rattle.listings.specs.Operations.{standardised}
-use Rattle.listings.proofs.Judged.{rules-left}
 use Rattle.merging.specs.Merging.{start}
 use Rattle.merging.specs.Rebuilds.{rebuilt}
 use Rattle.merging.proofs.States.{WellFormed, wf-start, full-sizes}
@@ -34,6 +32,8 @@ use Rattle.merging.proofs.Runs.{halt, wf-runs}
 use Rattle.merging.proofs.Values.{m-pairs}
 use Rattle.merging.proofs.MergeLists.{subtrees-start}
 use Rattle.merging.proofs.Rooted.{Rooted, rooted-result, rooted-two, rooted-refused}
+use Rattle.listings.specs.Operations.{standardised}
+use Rattle.listings.proofs.Judged.{rules-left}
 use Rattle.reconstruct.specs.Held.{Holds, Listed, Climbed, Fresh, Whole}
 use Rattle.reconstruct.proofs.Held.{in-label}
 
