@@ -228,7 +228,7 @@ fn sheet_of_five() {
         b"\x01a\x01b\x01c\x01d\x01e\x03\0\x01\0\0\0\0\0\x01\0\0\0\0\0\x01\0\x01\0\x03\0\x05\0\x0A\0\0\0QT";
     let mut cells = [9u32; 25];
     io::write_all(1, b"table of the sheet of five strains: ");
-    say(sheets::sheet_table(sheet, &mut cells));
+    say(sheet_tables::sheet_table(sheet, &mut cells));
     io::write_all(1, b"its leaf count: ");
     io::print_decimal(1, sheets::leaf_count_of(sheet) as u64);
     io::write_all(1, b"\n3 at (0,1): ");

@@ -12,7 +12,8 @@ ghost use Rattle.counts.specs.Operations.{tabled};
 ghost use Rattle.gaps.specs.Operations.{gapped};
 ghost use Rattle.reconstruct.specs.Operations.{rebuild-answer, guided-answer};
 ghost use Rattle.sheets.specs.Sheets.{leaves-of, offset-of, start, name};
-ghost use Rattle.sheets.specs.Operations.{tabled-sheet, name-asked};
+ghost use Rattle.sheets.specs.Operations.{name-asked};
+ghost use Rattle.sheet_tables.specs.Operations.{tabled-sheet};
 ghost use Rattle.strains.specs.Operations.{sheet-listing-bytes};
 ghost use Rattle.polls.specs.Operations.{polled};
 ghost use Rattle.quartree.specs.Replies.{figure, refusal-reply, reply, number-reply, reply-with};
@@ -189,7 +190,7 @@ pub extern "C" fn quartree_sheet_table(sheet: &[u8], out: &mut [u32]) -> u64
 {
     reply_with(
         sheets::leaf_count_of(sheet),
-        sheets::sheet_table(sheet, out),
+        sheet_tables::sheet_table(sheet, out),
     )
 }
 

@@ -5,7 +5,6 @@ use mathlib.Core.List.{List, [], _∷_, _++_, flatMap}
 use mathlib.Core.Option.{Option, none, some}
 use Prim.Native.Nat.{ℕ}
 use lib.ListN.{set, replicate}
-use Rattle.base.specs.Numbers.{sum}
 use Rattle.base.specs.Lists.{tab, any, every, find}
 use Rattle.pairs.specs.Pairs.{P}
 use Rattle.refusals.specs.declared.Refusal.{Refusal}
@@ -15,16 +14,16 @@ use Rattle.refusals.specs.Refusals.{Answer, accepted, refused, judged, answered
 use Rattle.listings.specs.Sizes.{bad-count, bad-room}
 use Rattle.listings.specs.Operations.{bad-question}
 use Rattle.sheets.specs.Sheets.{number, low-first, name-at, start, name, name-byte, is-name, same, cells}
-use Rattle.sheets.specs.Sheets.{cells-before, mirrored, table-with, trailer, leaves-of, offset-of, longest-sheet}
+use Rattle.sheets.specs.Sheets.{trailer, leaves-of, offset-of, longest-sheet}
 use Rattle.sheets.specs.Sheets.{names-of, cells-of, named, sheet-of}
 use Rattle.sheets.specs.Operations.{right-ends, bad-ends, right-sum, bad-sum, good-at, repeated, bad-name}
-use Rattle.sheets.specs.Operations.{bad-rest, bad-names, judged-figures, judged-sheet, tabled-sheet, name-asked}
+use Rattle.sheets.specs.Operations.{bad-rest, bad-names, judged-figures, judged-sheet, name-asked}
 
 longest : longest-sheet ≡ 21512
 longest = refl
 
 -- the sheet of 01, byte by byte
-five : List ℕ
+unfoldable pub five : List ℕ
 five =
     (0x01 ∷ 0x61 ∷ 0x01 ∷ 0x62 ∷ 0x01 ∷ 0x63 ∷ 0x01 ∷ 0x64 ∷ 0x01 ∷ 0x65 ∷ [])
     ++ (0x03 ∷ 0x00 ∷ 0x01 ∷ 0x00 ∷ 0x00 ∷ 0x00 ∷ 0x00 ∷ 0x00 ∷ 0x01 ∷ 0x00 ∷ [])
@@ -46,17 +45,6 @@ five-cells = refl
 five-written : sheet-of letters (cells-of five) ≡ five
 unfolding number low-first cells trailer leaves-of offset-of cells-of named sheet-of P tab flatMap five letters
 five-written = refl
-
-five-table : tabled-sheet five 25 ≡ accepted (
-    (0 ∷ 3 ∷ 1 ∷ 0 ∷ 0 ∷ [])
-    ++ (3 ∷ 0 ∷ 1 ∷ 0 ∷ 0 ∷ [])
-    ++ (1 ∷ 1 ∷ 0 ∷ 1 ∷ 1 ∷ [])
-    ++ (0 ∷ 0 ∷ 1 ∷ 0 ∷ 3 ∷ [])
-    ++ (0 ∷ 0 ∷ 1 ∷ 3 ∷ 0 ∷ []))
-unfolding number name-at start name name-byte is-name same cells cells-before mirrored table-with trailer leaves-of
-    offset-of cells-of right-ends bad-ends right-sum bad-sum good-at repeated bad-name bad-rest bad-names judged-figures
-    judged-sheet tabled-sheet judged answered bad-count bad-room sum tab any every P five
-five-table = refl
 
 -- the same sheet with one byte changed; with a name more than its leaf count says, and its first cell behind that; and
 -- three names, the second of so many bytes

@@ -7,7 +7,6 @@ pub mod Judging
 pub mod Sizes
 pub mod Judged
 pub mod Cells
-pub mod Tabled
 pub mod Accepted
 pub mod Written
 pub mod Asked

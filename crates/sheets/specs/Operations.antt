@@ -2,7 +2,7 @@
 use mathlib.Core.Bool.{Bool, cond, _&&_}
 use mathlib.Core.List.{List, [], _∷_, _++_}
 use mathlib.Core.Option.{Option, none, some}
-use Prim.Native.Nat.{ℕ, _+_, _*_}
+use Prim.Native.Nat.{ℕ, _+_}
 use lib.Dec.{ltb, leb, eqb}
 use lib.ListN.{length, drop}
 use Rattle.base.specs.Lists.{tab, any}
@@ -14,7 +14,7 @@ use Rattle.listings.specs.Sizes.{bad-count, bad-room}
 use Rattle.listings.specs.Operations.{bad-question}
 use Rattle.sheets.specs.declared.NamePlace.{NamePlace}
 use Rattle.sheets.specs.Sheets.{trailer-bytes, trailer, leaves-of, offset-of, mark, next, start}
-use Rattle.sheets.specs.Sheets.{name-at, name, is-name, same, cell-bytes, table-with, longest-sheet, cells-of}
+use Rattle.sheets.specs.Sheets.{name-at, name, is-name, same, cell-bytes, longest-sheet}
 
 -- a sheet has 8 to 21,512 bytes and ends 51 54: else 13
 unfoldable pub right-ends : List ℕ → Bool
@@ -63,11 +63,6 @@ judged-sheet S due room = judged-figures S (leaves-of S) (offset-of S) due room
 -- check, and read: 13, 1, 14, 15, 16
 unfoldable pub checked-sheet : List ℕ → Answer (Unit {0})
 checked-sheet S = answered (judged-sheet S 0 0) tt
-
--- the table of a sheet: 13, 1, 14, 3, 15, 16
-unfoldable pub tabled-sheet : (S : List ℕ) (room : ℕ) → Answer (List ℕ)
-tabled-sheet S room =
-    answered (judged-sheet S (leaves-of S * leaves-of S) room) (table-with (leaves-of S) (cells-of S))
 
 -- the name of a leaf, of a sheet kept with its figures: 13, 1, 14, 15, 16, and 9 with 0 for a leaf ≥ n
 unfoldable pub name-asked : (S : List ℕ) (n o leaf : ℕ) → Answer (List ℕ)

@@ -76,19 +76,6 @@ cell-bytes n = n * (n - 1)
 unfoldable pub cells : List ℕ → ℕ → ℕ → List ℕ
 cells S n o = tab (P n) (λ k. number (take 2 (drop (o + 2 * k) S)))
 
--- how many stand before cell (i, j), i < j: n − 1 in row 0, n − 2 in row 1, .., and j − i − 1 in row i itself
-unfoldable pub cells-before : ℕ → ℕ → ℕ → ℕ
-cells-before n i j = sum i (λ r. n - (r + 1)) + (j - (i + 1))
-
--- cell (i, j) of the table that has the cells c above the diagonal: below it the mirror cell, on it 0
-unfoldable pub mirrored : ℕ → List ℕ → ℕ → ℕ → ℕ
-mirrored n c i j =
-    cond (ltb i j) (getD c (cells-before n i j) 0) (cond (ltb j i) (getD c (cells-before n j i) 0) 0)
-
--- that table: n × n cells, row by row
-unfoldable pub table-with : ℕ → List ℕ → List ℕ
-table-with n c = tab (n * n) (λ k. mirrored n c (k / n) (k % n))
-
 -- The trailer: the last 8 bytes; none where a sheet is shorter. It points back.
 
 abbrev pub trailer-bytes : ℕ

@@ -3,14 +3,12 @@ use refusals::Outcome;
 use refusals::Refusal;
 ghost use mathlib.Core.Path.{_≡_};
 ghost use Prim.Native.Nat.{_<_};
-ghost use lib.ListN.{length};
-ghost use Rattle.refusals.specs.Refusals.{outcome-of, outcome, written};
+ghost use Rattle.refusals.specs.Refusals.{outcome-of, outcome};
 ghost use Rattle.sheets.specs.Sheets.{leaves-of, offset-of};
-ghost use Rattle.sheets.specs.Operations.{judged-figures, judged-sheet, checked-sheet, tabled-sheet};
+ghost use Rattle.sheets.specs.Operations.{judged-figures, judged-sheet, checked-sheet};
 ghost use Rattle.sheets.specs.Operations.{name-asked, shown, name-placed};
 
 mod naming;
-mod table;
 mod trailer;
 
 // A sheet kept together with its trailer's figures: the leaf count and the offset of the first cell.
@@ -45,6 +43,20 @@ pub fn leaf_count_of(sheet: &[u8]) -> usize
     ensures { λ r. ⌜ (r ≡ leaves-of (now (sheet .entry))) × (r < 65536) ⌝ }
 {
     trailer::leaves_of(sheet)
+}
+
+// The offset of the first cell that a sheet's trailer says; 0 where the sheet is too short to have one.
+pub fn offset_of(sheet: &[u8]) -> usize
+    ensures { λ r. ⌜ r ≡ offset-of (now (sheet .entry)) ⌝ }
+{
+    trailer::offset_of(sheet)
+}
+
+// A byte as a number of the machine's width.
+pub fn wide(x: u8) -> usize
+    ensures { λ r. ⌜ (r ≡ x) × (r < 256) ⌝ }
+{
+    x as usize
 }
 
 // Judges a sheet by these figures, the leaf count and the offset, and the room for a result of `due` cells: 13, 1, 14,
@@ -109,21 +121,6 @@ pub fn read_sheet<'a>(bytes: &'a [u8]) -> Reading<'a>
     }
 }
 
-// Writes the table of a sheet, n * n cells, at the front of `out`: 13, 1, 14, 3, 15, 16.
-pub fn sheet_table(sheet: &[u8], out: &mut [u32]) -> Outcome
-    ensures answer { λ r. ⌜ r ≡ outcome (tabled-sheet (now (sheet .entry)) (length (now (out .entry)))) ⌝ }
-    ensures buffer { λ r. ⌜ now (out .exit)
-        ≡ written (tabled-sheet (now (sheet .entry)) (length (now (out .entry)))) (now (out .entry)) ⌝ }
-{
-    let n = trailer::leaves_of(sheet);
-    let judged = judge_sheet(sheet, n * n, out.len());
-    let Outcome::Done = judged else {
-        return judged;
-    };
-    table::write_table(sheet, n, trailer::offset_of(sheet), out);
-    judged
-}
-
 // Judges a leaf whose name is asked for, of a sheet kept with these figures: 13, 1, 14, 15, 16, and 9 with 0 for a
 // leaf >= n.
 fn judge_name(sheet: &[u8], n: usize, offset: usize, leaf: usize) -> Outcome
@@ -171,7 +168,7 @@ pub fn name_place(sheet: &[u8], leaf: usize) -> NamePlace
     let at = naming::start_of(sheet, leaf);
     NamePlace {
         first: at + 1,
-        many: trailer::wide(sheet[at]),
+        many: wide(sheet[at]),
         outcome,
     }
 }

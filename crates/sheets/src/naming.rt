@@ -1,5 +1,5 @@
 // Names: where each starts, whether it is good and equals no earlier one (15 and 16), and its bytes.
-use crate::trailer::wide;
+use crate::wide;
 use refusals::Outcome;
 use refusals::Refusal;
 ghost use mathlib.Core.Path.{_≡_};

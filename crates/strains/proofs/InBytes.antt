@@ -13,9 +13,10 @@ use Rattle.refusals.specs.declared.Outcome.the-variants.{Done, Refused}
 use Rattle.refusals.specs.Refusals.{Answer, accepted, refused, outcome, written}
 use Rattle.refusals.proofs.Answers.{unless-passed}
 use Rattle.reconstruct.proofs.Promises.{rebuilt-is-standard}
-use Rattle.sheets.specs.Sheets.{low-first, leaves-of, cells-of, table-with}
+use Rattle.sheets.specs.Sheets.{low-first, leaves-of, cells-of}
 use Rattle.sheets.specs.Operations.{judged-sheet}
 use Rattle.sheets.proofs.Bytes.{length-low}
+use Rattle.sheet_tables.specs.Operations.{table-with}
 use Rattle.strains.specs.Operations.{sheet-tree, sheet-listing, in-bytes, sheet-listing-bytes}
 use Rattle.strains.specs.Steps.{byte-rule}
 use Rattle.strains.proofs.Tabled.{accepted-here, other-room, rebuilt-alone}

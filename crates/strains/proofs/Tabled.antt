@@ -18,10 +18,11 @@ use Rattle.listings.proofs.Judged.{room-passes}
 use Rattle.tables.specs.Operations.{judged-table}
 use Rattle.tables.proofs.Judging.{cells-left}
 use Rattle.reconstruct.specs.Operations.{rebuild-answer}
-use Rattle.sheets.specs.Sheets.{leaves-of, offset-of, mirrored, cells-of, table-with}
-use Rattle.sheets.specs.Operations.{bad-ends, bad-sum, judged-figures, judged-sheet, tabled-sheet}
+use Rattle.sheets.specs.Sheets.{leaves-of, offset-of, cells-of}
+use Rattle.sheets.specs.Operations.{bad-ends, bad-sum, judged-figures, judged-sheet}
 use Rattle.sheets.proofs.Judged.{Accepted, accepted-sheet}
-use Rattle.sheets.proofs.Tabled.{sheet-is-table}
+use Rattle.sheet_tables.specs.Operations.{mirrored, table-with, tabled-sheet}
+use Rattle.sheet_tables.proofs.Tabled.{sheet-is-table}
 use Rattle.strains.specs.Operations.{sheet-tree}
 
 -- the cells of a table, and the most

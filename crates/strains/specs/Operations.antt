@@ -6,8 +6,9 @@ use Rattle.refusals.specs.declared.Outcome.{Outcome}
 use Rattle.refusals.specs.declared.Outcome.the-variants.{Done, Refused}
 use Rattle.refusals.specs.Refusals.{number-of, Answer, accepted, refused, unless}
 use Rattle.merging.specs.Rebuilds.{rebuilt}
-use Rattle.sheets.specs.Sheets.{low-first, leaves-of, cells-of, table-with}
+use Rattle.sheets.specs.Sheets.{low-first, leaves-of, cells-of}
 use Rattle.sheets.specs.Operations.{judged-sheet}
+use Rattle.sheet_tables.specs.Operations.{table-with}
 
 -- the tree that has the table of the sheet S, if one has: its standard listing, or 6
 unfoldable pub sheet-tree : List ℕ → Answer (List ℕ)

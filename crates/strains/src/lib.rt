@@ -37,7 +37,7 @@ pub fn listing_of(sheet: &[u8], listing: &mut [u16]) -> Outcome
     };
     let n = sheets::leaf_count_of(sheet);
     let mut cells = [0u32; 16384];
-    sheets::sheet_table(sheet, &mut cells);
+    sheet_tables::sheet_table(sheet, &mut cells);
     let end = n * n;
     reconstruct::rebuild(n, &cells[..end], listing)
 }

@@ -9,8 +9,9 @@ use borrow.Author.Needs.{needs}
 use lib.ListN.{length, take, replicate, length-take}
 use Rattle.pairs.specs.Limits.{most-leaves}
 use Rattle.refusals.proofs.Answers.{done-none, unless-told, unless-none}
-use Rattle.sheets.specs.Sheets.{leaves-of, cells-of, table-with}
+use Rattle.sheets.specs.Sheets.{leaves-of, cells-of}
 use Rattle.sheets.specs.Operations.{judged-sheet}
+use Rattle.sheet_tables.specs.Operations.{table-with}
 use Rattle.strains.specs.Operations.{sheet-listing}
 use Rattle.strains.proofs.Tabled.{table-long, accepted-here, cells-lent, rebuilt-alone}
 use Rattle.strains.proofs.listing_of.Statement.{statement}

@@ -1,9 +1,9 @@
--- `sheets::table::table_cell` meets its contract: three cases, above the diagonal, below it and on it.
+-- `sheet_tables::table::table_cell` meets its contract: three cases, above the diagonal, below it and on it.
 use borrow.Author.Needs.{needs}
 use borrow.Author.Tests.{lt-ltb, le-ltb}
-use Rattle.sheets.specs.Sheets.{mirrored}
-use Rattle.sheets.proofs.table.table_cell.Statement.{statement}
-use Rattle.sheets.proofs.table.table_cell.Tie as tie
+use Rattle.sheet_tables.specs.Operations.{mirrored}
+use Rattle.sheet_tables.proofs.table.table_cell.Statement.{statement}
+use Rattle.sheet_tables.proofs.table.table_cell.Tie as tie
 
 cell-above-requires : tie.Need-cell-above-requires
 cell-above-requires c κs = search needs

@@ -1,12 +1,13 @@
 // The table of a sheet, written row by row from the cells above the diagonal.
-use crate::trailer::pair_at;
+use sheets::wide;
 ghost use mathlib.Core.Path.{_≡_};
 ghost use Prim.Native.Nat.{_*_, _<_, _≤_};
 ghost use lib.ListN.{length, getD};
 ghost use Rattle.base.specs.Lists.{filled};
 ghost use Rattle.pairs.specs.Limits.{most-leaves};
-ghost use Rattle.sheets.specs.Sheets.{cells, cells-before, mirrored};
-ghost use Rattle.sheets.specs.Steps.{Holds, table-rule, RowWritten};
+ghost use Rattle.sheets.specs.Sheets.{cells};
+ghost use Rattle.sheet_tables.specs.Operations.{cells-before, mirrored};
+ghost use Rattle.sheet_tables.specs.Steps.{Holds, table-rule, RowWritten};
 
 // How many cells above the diagonal stand before cell (i, j), i < j.
 fn cells_before(n: usize, i: usize, j: usize) -> usize
@@ -16,12 +17,15 @@ fn cells_before(n: usize, i: usize, j: usize) -> usize
     i * n - i * (i + 1) / 2 + (j - i - 1)
 }
 
-// Cell (i, j) above the diagonal.
+// Cell (i, j) above the diagonal: two bytes, the low one first.
 fn cell_above(sheet: &[u8], n: usize, offset: usize, i: usize, j: usize) -> u32
     requires { ⌜ Holds (now sheet) n offset × (i < j) × (j < n) ⌝ }
     ensures { λ r. ⌜ r ≡ getD (cells (now (sheet .entry)) n offset) (cells-before n i j) 0 ⌝ }
 {
-    pair_at(sheet, offset + 2 * cells_before(n, i, j)) as u32
+    let at = offset + 2 * cells_before(n, i, j);
+    let low = wide(sheet[at]);
+    let high = wide(sheet[at + 1]);
+    (low + 256 * high) as u32
 }
 
 // Cell (i, j) of the table: below the diagonal the mirror cell, on it 0.

@@ -1,4 +1,4 @@
--- `sheets::table::write_row` meets its contract: after j turns j cells of the row stand behind the rows before it.
+-- `sheet_tables::table::write_row` meets its contract: after j turns j cells of the row stand behind the rows before it.
 use mathlib.Core.Path.{_≡_, refl, sym, _∙_}
 use mathlib.Core.List.{List}
 use Prim.Native.Nat.{ℕ, _+_, _-_, _*_, _≤_}
@@ -9,11 +9,12 @@ use lib.ListN.{length, length-set}
 use Rattle.base.specs.Lists.{filled}
 use Rattle.base.proofs.Lists.{row-of, column-of, place}
 use Rattle.base.proofs.Filling.{filled-more}
-use Rattle.sheets.specs.Sheets.{cells, mirrored}
-use Rattle.sheets.specs.Steps.{table-rule}
-use Rattle.sheets.proofs.Cells.{row-small}
-use Rattle.sheets.proofs.table.write_row.Statement.{statement}
-use Rattle.sheets.proofs.table.write_row.Tie as tie
+use Rattle.sheets.specs.Sheets.{cells}
+use Rattle.sheet_tables.specs.Operations.{mirrored}
+use Rattle.sheet_tables.specs.Steps.{table-rule}
+use Rattle.sheet_tables.proofs.Places.{row-small}
+use Rattle.sheet_tables.proofs.table.write_row.Statement.{statement}
+use Rattle.sheet_tables.proofs.table.write_row.Tie as tie
 
 abbrev Inv-loop : tie.InvT-loop
 Inv-loop sheet n offset i out₀ at j₀ out j =

@@ -1,10 +1,10 @@
--- `sheets::table::cells_before` meets its contract: the rows before row i hold i n − i (i + 1) / 2 cells.
+-- `sheet_tables::table::cells_before` meets its contract: the rows before row i hold i n − i (i + 1) / 2 cells.
 use mathlib.Core.Path.{sym}
 use native.Mathlib.Omega.{arith}
 use borrow.Author.Needs.{needs}
-use Rattle.sheets.proofs.Cells.{place-is, row-small, half-below}
-use Rattle.sheets.proofs.table.cells_before.Statement.{statement}
-use Rattle.sheets.proofs.table.cells_before.Tie as tie
+use Rattle.sheet_tables.proofs.Places.{place-is, row-small, half-below}
+use Rattle.sheet_tables.proofs.table.cells_before.Statement.{statement}
+use Rattle.sheet_tables.proofs.table.cells_before.Tie as tie
 
 mul-result : tie.Need-mul-result
 mul-result c = let a = c .args in omega (arith, row-small (a .n) (a .i) (omega arith) (omega arith))

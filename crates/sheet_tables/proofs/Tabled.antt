@@ -15,7 +15,7 @@ use Rattle.base.specs.Lists.{tab, in-rows, find}
 use Rattle.base.proofs.Bools.{bool?}
 use Rattle.base.proofs.Lists.{length-tab, getD-tab, none-not-some, row-of, column-of, place}
 use Rattle.trees.specs.Tables.{cell, first-filled, first-unequal, IsTable}
-use Rattle.sheets.specs.Sheets.{mirrored, table-with}
+use Rattle.sheet_tables.specs.Operations.{mirrored, table-with}
 
 -- a search that finds nothing: one member more, and the values of a rule
 none-more :

@@ -1,4 +1,4 @@
--- `sheets::table::write_table` meets its contract: after i turns the rows before row i stand in the buffer.
+-- `sheet_tables::table::write_table` meets its contract: after i turns the rows before row i stand in the buffer.
 use mathlib.Core.Path.{_≡_, refl, sym, _∙_}
 use Prim.Native.Nat.{_+_, _-_, _*_, _≤_}
 use native.Mathlib.Nat.{zero-mul}
@@ -7,9 +7,9 @@ use borrow.Author.Needs.{needs}
 use lib.ListN.{length}
 use Rattle.base.specs.Lists.{filled}
 use Rattle.base.proofs.Filling.{filled-none}
-use Rattle.sheets.specs.Steps.{table-rule}
-use Rattle.sheets.proofs.table.write_table.Statement.{statement}
-use Rattle.sheets.proofs.table.write_table.Tie as tie
+use Rattle.sheet_tables.specs.Steps.{table-rule}
+use Rattle.sheet_tables.proofs.table.write_table.Statement.{statement}
+use Rattle.sheet_tables.proofs.table.write_table.Tie as tie
 
 abbrev Inv-loop : tie.InvT-loop
 Inv-loop sheet n offset out₀ i₀ out i =

@@ -1,4 +1,4 @@
--- `sheets::sheet_table` meets its contract: nothing is written before `judge_sheet` is done, and what it accepts holds
+-- `sheet_tables::sheet_table` meets its contract: nothing is written before `judge_sheet` is done, and what it accepts holds
 -- the cells, so that the table is written.
 use mathlib.Core.Path.{_≡_, sym, _∙_}
 use mathlib.Core.Option.{none}
@@ -8,17 +8,19 @@ use native.Mathlib.Omega.{arith}
 use borrow.Author.Needs.{needs}
 use lib.ListN.{length}
 use Rattle.refusals.proofs.Answers.{outcome-answered, done-none, refused-some, written-refused}
-use Rattle.sheets.specs.Operations.{judged-sheet, tabled-sheet}
-use Rattle.sheets.proofs.Judged.{accepted-sheet, table-written}
-use Rattle.sheets.proofs.sheet_table.Statement.{statement}
-use Rattle.sheets.proofs.sheet_table.Tie as tie
+use Rattle.sheets.specs.Operations.{judged-sheet}
+use Rattle.sheets.proofs.Judged.{accepted-sheet}
+use Rattle.sheet_tables.specs.Operations.{tabled-sheet}
+use Rattle.sheet_tables.proofs.Written.{table-written}
+use Rattle.sheet_tables.proofs.sheet_table.Statement.{statement}
+use Rattle.sheet_tables.proofs.sheet_table.Tie as tie
 
-leaves-of-requires : tie.Need-leaves-of-requires
-leaves-of-requires c κs = search needs
+leaf-count-of-requires : tie.Need-leaf-count-of-requires
+leaf-count-of-requires c κs = search needs
 
 mul-judge-sheet : tie.Need-mul-judge-sheet
 mul-judge-sheet c =
-    let few : c .leaves-of .result ≤ 65535 = omega arith in
+    let few : c .leaf-count-of .result ≤ 65535 = omega arith in
     omega (arith, mul-le-mul few few)
 
 judge-sheet-requires : tie.Need-judge-sheet-requires
@@ -33,7 +35,7 @@ enum-told-2 c = search needs
 returns : tie.Need-returns
 unfolding tabled-sheet
 returns c =
-    let judged = rw (c .before .before .before .leaves-of .ensures .0) at (c .before .before .judge-sheet .ensures) in
+    let judged = rw (c .before .before .before .leaf-count-of .ensures .0) at (c .before .before .judge-sheet .ensures) in
     let arises = refused-some _ _ (sym judged ∙ c .enum-told2 .given .1) in
     (judged ∙ sym (outcome-answered _ _), sym (written-refused _ _ _ _ arises))
 
@@ -41,7 +43,7 @@ returns c =
 none-arises :
     (c : tie.After-enum-told)
     → (let a = c .before .before .before .before .before .before .args in
-    let n = c .before .before .before .leaves-of .result in
+    let n = c .before .before .before .leaf-count-of .result in
     judged-sheet (a .sheet .now) (n * n) (length (a .out .now)) ≡ none)
 none-arises c = done-none _ (sym (c .before .before .judge-sheet .ensures) ∙ c .enum-told .given .1)
 
@@ -53,7 +55,7 @@ unfolding judged-sheet
 write-table-requires c κs =
     let done = c .before .before in
     let a = accepted-sheet _ _ _ _ _ (none-arises done) in
-    let n-is = done .before .before .before .leaves-of .ensures .0 in
+    let n-is = done .before .before .before .leaf-count-of .ensures .0 in
     (rw (n-is, c .before .offset-of .ensures) (a .count .1, a .sum), a .room-enough)
 
 same-length : tie.Need-same-length
@@ -65,7 +67,7 @@ returns-2 c =
     let put = c .before .before in
     let offset-is = put .before .before .offset-of .ensures in
     let done = put .before .before .before in
-    let n-is = done .before .before .before .leaves-of .ensures .0 in (
+    let n-is = done .before .before .before .leaf-count-of .ensures .0 in (
       (rw n-is at (done .before .before .judge-sheet .ensures)) ∙ sym (outcome-answered _ _),
       put .write-table .ensures ∙ sym (table-written _ _ n-is offset-is (none-arises done)),
     )
@@ -74,7 +76,7 @@ pub sheet-table-spec : {M : Type 1} → statement M
 sheet-table-spec =
     tie.close
     (tie.spec
-    leaves-of-requires
+    leaf-count-of-requires
     mul-judge-sheet
     judge-sheet-requires
     enum-told

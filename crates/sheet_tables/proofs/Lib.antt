@@ -1,0 +1,4 @@
+pub mod Examples
+pub mod Places
+pub mod Tabled
+pub mod Written
