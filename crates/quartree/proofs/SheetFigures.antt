@@ -19,13 +19,13 @@ use Rattle.refusals.specs.Refusals.{Answer, accepted, refused, judged, answered
 use Rattle.listings.specs.Sizes.{bad-count, bad-room}
 use Rattle.listings.specs.Operations.{bad-question}
 use Rattle.listings.proofs.Judged.{count-right}
-use Rattle.sheets.specs.declared.NamePlace.{NamePlace}
 use Rattle.sheets.specs.Sheets.{leaves-of, offset-of, start, name, longest-sheet}
 use Rattle.sheets.specs.Operations.{right-ends, bad-ends, right-sum, bad-sum, good-at, repeated, bad-name, bad-rest}
-use Rattle.sheets.specs.Operations.{bad-names, judged-figures, judged-sheet, name-asked}
-use Rattle.sheets.specs.Operations.{placed, name-placed}
-use Rattle.sheets.proofs.Asked.{asked-few}
+use Rattle.sheets.specs.Operations.{bad-names, judged-figures, judged-sheet}
 use Rattle.sheet_tables.specs.Operations.{tabled-sheet}
+use Rattle.names.specs.declared.NamePlace.{NamePlace}
+use Rattle.names.specs.Operations.{name-asked, placed, name-placed}
+use Rattle.names.proofs.Asked.{asked-few}
 use Rattle.quartree.specs.Replies.{reply-with}
 use Rattle.quartree.specs.Steps.{SmallFigures, outcome-reply-with}
 use Rattle.quartree.proofs.Figures.{Small, judged-small, last-small, answered-small, nothing, count-small}

@@ -12,8 +12,8 @@ ghost use Rattle.counts.specs.Operations.{tabled};
 ghost use Rattle.gaps.specs.Operations.{gapped};
 ghost use Rattle.reconstruct.specs.Operations.{rebuild-answer, guided-answer};
 ghost use Rattle.sheets.specs.Sheets.{leaves-of, offset-of, start, name};
-ghost use Rattle.sheets.specs.Operations.{name-asked};
 ghost use Rattle.sheet_tables.specs.Operations.{tabled-sheet};
+ghost use Rattle.names.specs.Operations.{name-asked};
 ghost use Rattle.strains.specs.Operations.{sheet-listing-bytes};
 ghost use Rattle.polls.specs.Operations.{polled};
 ghost use Rattle.quartree.specs.Replies.{figure, refusal-reply, reply, number-reply, reply-with};
@@ -202,7 +202,7 @@ pub extern "C" fn quartree_sheet_name(sheet: &[u8], leaf: usize) -> u64
         ≡ reply-with (256 * (start (now (sheet .entry)) leaf + 1) + length (name (now (sheet .entry)) leaf))
         (name-asked (now (sheet .entry)) (leaves-of (now (sheet .entry))) (offset-of (now (sheet .entry))) leaf) ⌝ }
 {
-    let place = sheets::name_place(sheet, leaf);
+    let place = names::name_place(sheet, leaf);
     let outcome = place.outcome;
     reply_with(256 * place.first + place.many, outcome)
 }

@@ -1,5 +1,5 @@
--- Where cell (i, j) stands among those above the diagonal, by a product; that this is below P(n); and that no product is
--- large.
+-- Where cell (i, j) stands among those above the diagonal, by a product, and that this is below P(n); and that the
+-- products are small.
 use mathlib.Core.Path.{_≡_}
 use Prim.Native.Nat.{ℕ, zero, suc, _+_, _-_, _*_, _/_, _≤_, _<_}
 use native.Mathlib.Nat.{mul-le-mul, mul-le-mul-left}

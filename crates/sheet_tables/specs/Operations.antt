@@ -10,8 +10,8 @@ use Rattle.refusals.specs.Refusals.{Answer, answered}
 use Rattle.sheets.specs.Sheets.{leaves-of, cells-of}
 use Rattle.sheets.specs.Operations.{judged-sheet}
 
--- how many cells above the diagonal stand before cell (i, j), i < j, row by row: n − 1 in row 0, n − 2 in row 1, .., and
--- j − i − 1 in row i itself
+-- how many cells above the diagonal stand before cell (i, j), i < j, row by row: n − 1 in row 0, n − 2 in row 1, ..,
+-- and j − i − 1 in row i itself
 unfoldable pub cells-before : ℕ → ℕ → ℕ → ℕ
 cells-before n i j = sum i (λ r. n - (r + 1)) + (j - (i + 1))
 

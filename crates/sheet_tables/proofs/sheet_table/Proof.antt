@@ -1,5 +1,5 @@
--- `sheet_tables::sheet_table` meets its contract: nothing is written before `judge_sheet` is done, and what it accepts holds
--- the cells, so that the table is written.
+-- `sheet_tables::sheet_table` meets its contract: nothing is written before `judge_sheet` is done, and what it accepts
+-- holds the cells, so that the table is written.
 use mathlib.Core.Path.{_≡_, sym, _∙_}
 use mathlib.Core.Option.{none}
 use Prim.Native.Nat.{_*_, _≤_}
@@ -35,7 +35,8 @@ enum-told-2 c = search needs
 returns : tie.Need-returns
 unfolding tabled-sheet
 returns c =
-    let judged = rw (c .before .before .before .leaf-count-of .ensures .0) at (c .before .before .judge-sheet .ensures) in
+    let judge = c .before .before in
+    let judged = rw (judge .before .leaf-count-of .ensures .0) at (judge .judge-sheet .ensures) in
     let arises = refused-some _ _ (sym judged ∙ c .enum-told2 .given .1) in
     (judged ∙ sym (outcome-answered _ _), sym (written-refused _ _ _ _ arises))
 

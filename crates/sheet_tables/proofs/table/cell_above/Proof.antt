@@ -1,6 +1,5 @@
--- `sheet_tables::table::cell_above` meets its contract: a place below P(n) is two bytes before the trailer, and the second
--- of them counts 256 times.
-use mathlib.Core.Path.{_≡_}
+-- `sheet_tables::table::cell_above` meets its contract: a place below P(n) is two bytes before the trailer, and the
+-- second of them counts 256 times.
 use Prim.Native.Nat.{_+_, _*_, _≤_}
 use native.Mathlib.Omega.{arith}
 use borrow.Author.Needs.{needs}

@@ -1,4 +1,5 @@
--- `sheet_tables::table::write_row` meets its contract: after j turns j cells of the row stand behind the rows before it.
+-- `sheet_tables::table::write_row` meets its contract: after j turns j cells of the row stand behind the rows before
+-- it.
 use mathlib.Core.Path.{_≡_, refl, sym, _∙_}
 use mathlib.Core.List.{List}
 use Prim.Native.Nat.{ℕ, _+_, _-_, _*_, _≤_}

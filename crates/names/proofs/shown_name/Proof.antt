@@ -1,14 +1,14 @@
--- `sheets::naming::shown_name` meets its contract: the name stands between its length byte and the next name.
-use mathlib.Core.Path.{_≡_, refl, _∙_}
+-- `names::shown_name` meets its contract: the name stands between its length byte and the next name.
+use mathlib.Core.Path.{_≡_, refl}
 use Prim.Native.Nat.{_+_, _-_, _≤_}
 use native.Mathlib.Omega.{arith}
 use borrow.Author.Needs.{needs}
 use lib.ListN.{length, getD}
 use Rattle.sheets.specs.Sheets.{name-at, start}
 use Rattle.sheets.proofs.Names.{start-next, start-name}
-use Rattle.sheets.proofs.Asked.{shown-none, shown-whole}
-use Rattle.sheets.proofs.naming.shown_name.Statement.{statement}
-use Rattle.sheets.proofs.naming.shown_name.Tie as tie
+use Rattle.names.proofs.Asked.{shown-none, shown-whole}
+use Rattle.names.proofs.shown_name.Statement.{statement}
+use Rattle.names.proofs.shown_name.Tie as tie
 
 enum-told : tie.Need-enum-told
 enum-told c = search needs
@@ -42,8 +42,16 @@ start-of-requires c κs =
 add-from : tie.Need-add-from
 add-from c = omega (arith, ends (c .before), start-next _ _ (c .start-of .ensures))
 
-next-name-requires : tie.Need-next-name-requires
-next-name-requires c κs = omega (arith, ends (c .before), start-next _ _ (c .start-of .ensures))
+shared-slice-read-wide : tie.Need-shared-slice-read-wide
+shared-slice-read-wide c = omega (arith, ends (c .before .before), start-next _ _ (c .before .start-of .ensures))
+
+wide-requires : tie.Need-wide-requires
+wide-requires c κs = search needs
+
+add-to : tie.Need-add-to
+add-to c =
+    let at = c .before .before in
+    omega (arith, ends (at .before), start-next _ _ (at .start-of .ensures))
 
 sub-result-2 : tie.Need-sub-result-2
 sub-result-2 c = search needs
@@ -53,16 +61,18 @@ part-result-start-2 c = search needs
 
 part-result-end-2 : tie.Need-part-result-end-2
 part-result-end-2 c =
-    omega (arith, ends (c .before .before), c .next-name .ensures ∙ start-next _ _ (c .before .start-of .ensures))
+    let at = c .before .before in
+    omega (arith, ends (at .before), start-next _ _ (at .start-of .ensures))
 
 returns-2 : tie.Need-returns-2
 unfolding name-at
 returns-2 c =
-    let a = c .before .before .before .before .before .before .args in
+    let at = c .before .before .before in
+    let a = at .before .before .before .before .args in
     let S = a .sheet .now in
-    let p = c .before .before .start-of in
-    let many : c .before .next-name .result - (p .result + 1) ≡ getD S (p .result) 0 = omega arith in
-    shown-whole _ _ (c .before .before .before .enum-told .given .1) (rw many (start-name S (a .leaf) (p .ensures)))
+    let p = at .start-of .result in
+    let many : p + 1 + c .before .wide .result - (p + 1) ≡ getD S p 0 = omega arith in
+    shown-whole _ _ (at .before .enum-told .given .1) (rw many (start-name S (a .leaf) (at .start-of .ensures)))
 
 pub shown-name-spec : {M : Type 1} → statement M
 shown-name-spec =
@@ -76,7 +86,9 @@ shown-name-spec =
     returns
     start-of-requires
     add-from
-    next-name-requires
+    shared-slice-read-wide
+    wide-requires
+    add-to
     sub-result-2
     part-result-start-2
     part-result-end-2
