@@ -1,9 +1,8 @@
 -- `sheet_tables::table::write_row` meets its contract: after j turns j cells of the row stand behind the rows before
 -- it.
-use mathlib.Core.Path.{_≡_, refl, sym, _∙_}
+use mathlib.Core.Path.{_≡_, refl, ap, sym, _∙_}
 use mathlib.Core.List.{List}
 use Prim.Native.Nat.{ℕ, _+_, _-_, _*_, _≤_}
-use native.Mathlib.Nat.{add-zero}
 use native.Mathlib.Omega.{arith}
 use borrow.Author.Needs.{needs}
 use lib.ListN.{length, length-set}
@@ -33,7 +32,9 @@ mul-at c = let a = c .before .before .args in omega (arith, row-small (a .n) (a 
 loop-holds : tie.Need-loop-holds Inv-loop μ-loop
 loop-holds c =
     let a = c .before .before .args in
-    (omega arith, refl, λ base l e. rw (add-zero (a .i * a .n)) e)
+    let rule = table-rule (a .sheet .now) (a .n) (a .offset) in
+    let here : a .i * a .n ≡ a .i * a .n + 0 = omega arith in
+    (omega arith, refl, λ base l e. e ∙ ap (λ k. filled k rule base) here)
 
 table-cell-requires : tie.Need-table-cell-requires Inv-loop μ-loop
 table-cell-requires c κs = search needs
