@@ -319,7 +319,8 @@ static double least(double x, double y) { return x < y ? x : y; }
 /* The least of three times of our rebuild. */
 static double rebuild_time(void) { return least(timed(rebuild, 1), least(timed(rebuild, 1), timed(rebuild, 1))); }
 
-/* The slowest table with one cell, and its mirror, one too large, over the table itself. */
+/* The slowest table with one cell, and its mirror, one too large, over the table itself. A time that would be the
+   slowest is taken again, so that it is not a pause of the machine. */
 static double damaged_ratio(void)
 {
     double worst = 0, accepted = rebuild_time();
@@ -328,6 +329,8 @@ static double damaged_ratio(void)
             cells[i * n + j]++;
             cells[j * n + i]++;
             double t = rebuild_time();
+            for (int again = 0; again < 5 && t > worst; again++)
+                t = least(t, rebuild_time());
             if (t > worst)
                 worst = t;
             if (quartree_rebuild(n, cells, n * n, standard, 2 * (n - 2)) != 6)
