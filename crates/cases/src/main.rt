@@ -146,7 +146,7 @@ fn leaf_count(n: usize) {
     let mut cells = [0u32; 16384];
     let mut rebuilt = [0u16; 252];
     say(listings::check(n, &listing));
-    say(counts::table(n, &listing, &mut cells));
+    say(tree_tables::table(n, &listing, &mut cells));
     say(reconstruct::rebuild(n, &cells, &mut rebuilt));
 }
 

@@ -11,7 +11,7 @@ use lib.IntN.{ℤ, pos, negsuc, negℤ, _+ℤ_, _-ℤ_, +ℤ-invr, -ℤ-+ℤ-can
 use lib.Signed.{mag, leZ, _≤ℤ_, leZ-yes}
 use lib.ListN.{getD}
 use Rattle.base.proofs.Lists.{getD-tab, row-of, column-of, place}
-use Rattle.pairs.specs.Limits.{LeafCount}
+use Rattle.limits.specs.Limits.{IsLeafCount}
 use Rattle.trees.specs.Trees.{Tree}
 use Rattle.trees.specs.Quartets.{quartets}
 use Rattle.trees.specs.Tables.{cell, IsTable, HasTable}
@@ -52,7 +52,7 @@ not-more x (suc y) l = leZ-yes (either (ltb x (suc y)) (suc y - suc x) (x - suc 
 
 -- from −7,875 to 4,294,967,295
 pub gap-ends :
-    (n : ℕ) → LeafCount n → (t : List ℕ) (T : Tree) (i j : ℕ) → i < n → j < n → cell n t i j ≤ 4294967295
+    (n : ℕ) → IsLeafCount n → (t : List ℕ) (T : Tree) (i j : ℕ) → i < n → j < n → cell n t i j ≤ 4294967295
     → (negℤ (pos 7875) ≤ℤ gap n t T i j) × (gap n t T i j ≤ℤ pos 4294967295)
 gap-ends n c t T i j li lj small =
     let count : ℕ = quartets n T i j in

@@ -6,22 +6,22 @@ use lib.IntN.{pos, _-ℤ_}
 use lib.ListN.{length, getD, drop, List·getD-append}
 use Rattle.base.specs.Lists.{tab}
 use Rattle.base.proofs.Lists.{length-tab, getD-tab, tab-same}
-use Rattle.pairs.specs.Limits.{LeafCount}
+use Rattle.limits.specs.Limits.{IsLeafCount}
 use Rattle.refusals.specs.Refusals.{written}
 use Rattle.trees.specs.Trees.{Tree}
 use Rattle.trees.specs.Listings.{KeepsRules, tree-of}
 use Rattle.trees.specs.Quartets.{quartets}
 use Rattle.trees.specs.Tables.{table-of}
-use Rattle.listings.proofs.Judged.{rules-left}
-use Rattle.counts.specs.Operations.{tabled}
-use Rattle.counts.proofs.Filling.{table-written}
+use Rattle.listings.proofs.ListingRefusal.{rules-left}
+use Rattle.tree_tables.specs.Operations.{table-answer}
+use Rattle.tree_tables.proofs.Filling.{table-written}
 use Rattle.gaps.specs.Operations.{gaps}
 use Rattle.gaps.specs.Steps.{gap-at}
 
 -- the table of a listing that keeps the rules is accepted, and written
 pub tree-there :
-    (n : ℕ) (l out : List ℕ) → LeafCount n → KeepsRules n l → n * n ≤ length out
-    → written (tabled n l (length out)) out ≡ table-of n (tree-of n l) ++ drop (n * n) out
+    (n : ℕ) (l out : List ℕ) → IsLeafCount n → KeepsRules n l → n * n ≤ length out
+    → written (table-answer n l (length out)) out ≡ table-of n (tree-of n l) ++ drop (n * n) out
 tree-there n l out count keeps room =
     table-written n l out (rules-left n l (n * n) (length out) count (keeps .numbers) room ∙ keeps .rules)
 

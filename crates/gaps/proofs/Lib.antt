@@ -1,5 +1,5 @@
 pub mod Fronts
 pub mod Signed
 pub mod Gaps
-pub mod Judging
+pub mod GapAnswer
 pub mod GapLaws

@@ -7,10 +7,10 @@ ghost use Prim.Native.Nat.{_*_, _≤_};
 ghost use lib.IntN.{pos, _-ℤ_};
 ghost use lib.ListN.{length, drop};
 ghost use Rattle.base.specs.Lists.{tab};
-ghost use Rattle.pairs.specs.Limits.{LeafCount};
+ghost use Rattle.limits.specs.Limits.{IsLeafCount};
 ghost use Rattle.refusals.specs.Refusals.{outcome, written};
 ghost use Rattle.trees.specs.Listings.{KeepsRules, tree-of};
-ghost use Rattle.gaps.specs.Operations.{gaps, gapped};
+ghost use Rattle.gaps.specs.Operations.{gaps, gap-answer};
 ghost use Rattle.gaps.specs.Steps.{gap-at};
 
 // The gap at one cell: the table's number less the tree's.
@@ -36,13 +36,13 @@ fn subtract(count: usize, cells: &[u32], tree: &[u32; 16384], out: &mut [i64])
 // The gap at each cell between a table and the tree that a listing stands for. A listing that keeps the rules has a
 // table, so that the answer of `table` is known.
 fn fill_gap(n: usize, cells: &[u32], listing: &[u16], out: &mut [i64])
-    requires { ⌜ LeafCount n × (length (now cells) ≡ n * n) × KeepsRules n (now listing)
+    requires { ⌜ IsLeafCount n × (length (now cells) ≡ n * n) × KeepsRules n (now listing)
         × (n * n ≤ length (now out)) ⌝ }
     ensures { λ _. ⌜ now (out .exit)
         ≡ gaps n (now (cells .entry)) (tree-of n (now (listing .entry))) ++ drop (n * n) (now (out .entry)) ⌝ }
 {
     let mut tree: [u32; 16384] = [0; 16384];
-    counts::table(n, listing, &mut tree);
+    tree_tables::table(n, listing, &mut tree);
     subtract(n * n, cells, &tree, out);
 }
 
@@ -50,9 +50,9 @@ fn fill_gap(n: usize, cells: &[u32], listing: &[u16], out: &mut [i64])
 // judged the sizes are right, so that only 4 and 5 are left to arise.
 pub fn gap(n: usize, cells: &[u32], listing: &[u16], out: &mut [i64]) -> Outcome
     ensures answer { λ r. ⌜ r
-        ≡ outcome (gapped n (now (cells .entry)) (now (listing .entry)) (length (now (out .entry)))) ⌝ }
+        ≡ outcome (gap-answer n (now (cells .entry)) (now (listing .entry)) (length (now (out .entry)))) ⌝ }
     ensures buffer { λ r. ⌜ now (out .exit)
-        ≡ written (gapped n (now (cells .entry)) (now (listing .entry)) (length (now (out .entry))))
+        ≡ written (gap-answer n (now (cells .entry)) (now (listing .entry)) (length (now (out .entry))))
         (now (out .entry)) ⌝ }
 {
     if !listings::leaf_count(n) {
@@ -65,7 +65,7 @@ pub fn gap(n: usize, cells: &[u32], listing: &[u16], out: &mut [i64]) -> Outcome
     let Outcome::Done = judged else {
         return judged;
     };
-    let verdict = tables::judge(n, cells, 0, 0);
+    let verdict = table_checks::judge(n, cells, 0, 0);
     let Outcome::Done = verdict else {
         return verdict;
     };

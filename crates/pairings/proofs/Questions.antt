@@ -10,12 +10,12 @@ use native.Mathlib.Omega.{arith}
 use borrow.Author.Tests.{leb-false, eq-eqb}
 use lib.Dec.{leb, eqb}
 use lib.ListN.{length, getD, take}
-use Rattle.base.specs.Lists.{tab, any}
+use Rattle.base.specs.Lists.{tab, any-in}
 use Rattle.base.proofs.Bools.{never, or-neither}
 use Rattle.base.proofs.Lists.{length-tab, getD-tab, none-not-some, find-none}
 use Rattle.refusals.specs.declared.Refusal.{Refusal}
 use Rattle.refusals.specs.declared.Refusal.the-variants.{Question}
-use Rattle.listings.specs.Operations.{wrong-at, bad-question}
+use Rattle.listings.specs.Operations.{wrong-at, question-refusal}
 use Rattle.trees.proofs.Pairings.{Four}
 use Rattle.pairings.proofs.Finds.{none-found, first-found, any-before}
 
@@ -24,19 +24,19 @@ abbrev pub FourAsked : ℕ → List ℕ → Type 0
 FourAsked n q = Four n (getD q 0 0) (getD q 1 0) (getD q 2 0) (getD q 3 0)
 
 module _ (n : ℕ) (q : List ℕ) where
-  pub question-good : ((i : ℕ) → i < length q → wrong-at n q i ≡ false) → bad-question n q ≡ none
-  unfolding bad-question
-  question-good h = rw (none-found (wrong-at n q) (length q) h, bad-question)
+  pub question-good : ((i : ℕ) → i < length q → wrong-at n q i ≡ false) → question-refusal n q ≡ none
+  unfolding question-refusal
+  question-good h = rw (none-found (wrong-at n q) (length q) h, question-refusal)
 
   pub question-bad :
       (p : ℕ) → p < length q → wrong-at n q p ≡ true → ((i : ℕ) → i < p → wrong-at n q i ≡ false)
-      → bad-question n q ≡ some (Question p)
-  unfolding bad-question
-  question-bad p l t h = rw (first-found (wrong-at n q) (length q) p l t h, bad-question)
+      → question-refusal n q ≡ some (Question p)
+  unfolding question-refusal
+  question-bad p l t h = rw (first-found (wrong-at n q) (length q) p l t h, question-refusal)
 
   -- of a question that is not refused: no position is bad
-  position-good : bad-question n q ≡ none → (p : ℕ) → p < length q → wrong-at n q p ≡ false
-  unfolding bad-question
+  position-good : question-refusal n q ≡ none → (p : ℕ) → p < length q → wrong-at n q p ≡ false
+  unfolding question-refusal
   position-good h p l =
       let positions = tab (length q) (λ i. i) in
       let here : p < length positions = rw (length-tab (length q) (λ i. i)) l in
@@ -48,7 +48,7 @@ module _ (n : ℕ) (q : List ℕ) where
       not-found none g = refl
       not-found (some p) g = absurd (none-not-some _ (Question p) refl g)
 
-  pub question-four : length q ≡ 4 → bad-question n q ≡ none → FourAsked n q
+  pub question-four : length q ≡ 4 → question-refusal n q ≡ none → FourAsked n q
   question-four e h = record {
     leaf-a = below 0 (omega arith);
     leaf-b = below 1 (omega arith);
@@ -62,8 +62,8 @@ module _ (n : ℕ) (q : List ℕ) where
     cd = differ 2 3 (omega arith) (omega arith);
   }
     where
-      good : (p : ℕ) → p < length q → (leb n (getD q p 0) ≡ false) × (any (eqb (getD q p 0)) (take p q) ≡ false)
-      good p l = or-neither (leb n (getD q p 0)) (any (eqb (getD q p 0)) (take p q)) (position-good h p l)
+      good : (p : ℕ) → p < length q → (leb n (getD q p 0) ≡ false) × (any-in (eqb (getD q p 0)) (take p q) ≡ false)
+      good p l = or-neither (leb n (getD q p 0)) (any-in (eqb (getD q p 0)) (take p q)) (position-good h p l)
 
       below : (p : ℕ) → p < length q → getD q p 0 < n
       below p l = leb-false _ _ (good p l .0)

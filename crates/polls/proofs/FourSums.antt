@@ -10,65 +10,65 @@ use native.Mathlib.Omega.{arith}
 use native.Mathlib.Decide.{decLt, ℕ-discrete}
 use borrow.Author.Tests.{ltb-true, lt-ltb, le-ltb}
 use lib.Dec.{ltb}
-use Rattle.base.specs.Numbers.{gain, count, sum}
+use Rattle.base.specs.Numbers.{indicator, count-below, sum-below}
 use Rattle.base.specs.Lists.{tab}
 use Rattle.base.proofs.Bools.{and-both}
-use Rattle.pairs.specs.Pairs.{pairs}
-use Rattle.pairs.proofs.Pairs.{pairs-suc}
+use Rattle.pair_counts.specs.Pairs.{pairs-below}
+use Rattle.pair_counts.proofs.Pairs.{pairs-suc}
 use Rattle.polls.specs.declared.judging.Quartet.{Quartet}
 use Rattle.polls.specs.Records.{from, four, with-three, with-two, with-one, quartets-of}
 
 -- what is gained: nothing of 0, a sum by parts, where the test holds
-pub gain-none : (b : Bool) → gain b 0 ≡ 0
+pub gain-none : (b : Bool) → indicator b 0 ≡ 0
 gain-none true = refl
 gain-none false = refl
 
-gain-add : (b : Bool) (x y : ℕ) → gain b (x + y) ≡ gain b x + gain b y
+gain-add : (b : Bool) (x y : ℕ) → indicator b (x + y) ≡ indicator b x + indicator b y
 gain-add true x y = refl
 gain-add false x y = refl
 
-pub gain-when : (b : Bool) (x y : ℕ) → (b ≡ true → x ≡ y) → gain b x ≡ gain b y
+pub gain-when : (b : Bool) (x y : ℕ) → (b ≡ true → x ≡ y) → indicator b x ≡ indicator b y
 gain-when true x y h = h refl
 gain-when false x y h = refl
 
-sum-ext : (n : ℕ) (f g : ℕ → ℕ) → ((k : ℕ) → k < n → f k ≡ g k) → sum n f ≡ sum n g
-unfolding sum
+sum-ext : (n : ℕ) (f g : ℕ → ℕ) → ((k : ℕ) → k < n → f k ≡ g k) → sum-below n f ≡ sum-below n g
+unfolding sum-below
 sum-ext zero f g h = refl
 sum-ext (suc n) f g h = rw (sum-ext n f g (λ k l. h k (omega arith)), h n (omega arith))
 
-sum-zero : (n : ℕ) (f : ℕ → ℕ) → ((k : ℕ) → k < n → f k ≡ 0) → sum n f ≡ 0
-unfolding sum
+sum-zero : (n : ℕ) (f : ℕ → ℕ) → ((k : ℕ) → k < n → f k ≡ 0) → sum-below n f ≡ 0
+unfolding sum-below
 sum-zero zero f h = refl
 sum-zero (suc n) f h = omega (arith, sum-zero n f (λ k l. h k (omega arith)), h n (omega arith))
 
-sum-add : (n : ℕ) (f g : ℕ → ℕ) → sum n (λ k. f k + g k) ≡ sum n f + sum n g
-unfolding sum
+sum-add : (n : ℕ) (f g : ℕ → ℕ) → sum-below n (λ k. f k + g k) ≡ sum-below n f + sum-below n g
+unfolding sum-below
 sum-add zero f g = refl
 sum-add (suc n) f g = omega (arith, sum-add n f g)
 
 -- what is 0 but at i
-sum-only : (n i : ℕ) (f : ℕ → ℕ) → i < n → ((k : ℕ) → k ≢ i → f k ≡ 0) → sum n f ≡ f i
-unfolding sum
+sum-only : (n i : ℕ) (f : ℕ → ℕ) → i < n → ((k : ℕ) → k ≢ i → f k ≡ 0) → sum-below n f ≡ f i
+unfolding sum-below
 sum-only zero i f l h = absurd (omega arith)
 sum-only (suc n) i f l h = elim (ℕ-discrete n i) [
   | yes e ↦ rw (← e) (omega (arith, sum-zero n f (λ k m. h k (λ d. omega arith))))
   | no d ↦ omega (arith, sum-only n i f (omega arith) h, h n d)
 ]
 
-gain-sum : (b : Bool) (n : ℕ) (f : ℕ → ℕ) → gain b (sum n f) ≡ sum n (λ k. gain b (f k))
+gain-sum : (b : Bool) (n : ℕ) (f : ℕ → ℕ) → indicator b (sum-below n f) ≡ sum-below n (λ k. indicator b (f k))
 gain-sum true n f = refl
 gain-sum false n f = sym (sum-zero n (λ k. 0) (λ k l. refl))
 
 -- over two, and over four
 abbrev pub sum2 : ℕ → (ℕ → ℕ → ℕ) → ℕ
-sum2 n f = sum n (λ p. sum n (λ q. f p q))
+sum2 n f = sum-below n (λ p. sum-below n (λ q. f p q))
 
 abbrev sum4 : ℕ → (ℕ → ℕ → ℕ → ℕ → ℕ) → ℕ
 sum4 n f = sum2 n (λ a b. sum2 n (λ c d. f a b c d))
 
 pub sum2-ext : (n : ℕ) (f g : ℕ → ℕ → ℕ) → ((p q : ℕ) → p < n → q < n → f p q ≡ g p q) → sum2 n f ≡ sum2 n g
 sum2-ext n f g h =
-    sum-ext n (λ p. sum n (f p)) (λ p. sum n (g p)) (λ p l. sum-ext n (f p) (g p) (λ q m. h p q l m))
+    sum-ext n (λ p. sum-below n (f p)) (λ p. sum-below n (g p)) (λ p l. sum-ext n (f p) (g p) (λ q m. h p q l m))
 
 pub sum4-ext :
     (n : ℕ) (f g : ℕ → ℕ → ℕ → ℕ → ℕ)
@@ -79,8 +79,9 @@ sum4-ext n f g h =
 
 sum2-add : (n : ℕ) (f g : ℕ → ℕ → ℕ) → sum2 n (λ p q. f p q + g p q) ≡ sum2 n f + sum2 n g
 sum2-add n f g =
-    sum-ext n (λ p. sum n (λ q. f p q + g p q)) (λ p. sum n (f p) + sum n (g p)) (λ p l. sum-add n (f p) (g p))
-    ∙ sum-add n (λ p. sum n (f p)) (λ p. sum n (g p))
+    sum-ext n (λ p. sum-below n (λ q. f p q + g p q)) (λ p. sum-below n (f p) + sum-below n (g p))
+    (λ p l. sum-add n (f p) (g p))
+    ∙ sum-add n (λ p. sum-below n (f p)) (λ p. sum-below n (g p))
 
 sum4-add :
     (n : ℕ) (f g : ℕ → ℕ → ℕ → ℕ → ℕ) → sum4 n (λ a b c d. f a b c d + g a b c d) ≡ sum4 n f + sum4 n g
@@ -99,7 +100,7 @@ sum2-six n f g h k l m =
     ∙ rw (sum2-add n f g, sum2-add n (λ p q. h p q + k p q) (λ p q. l p q + m p q), sum2-add n h k, sum2-add n l m)
 
 sum2-zero : (n : ℕ) (f : ℕ → ℕ → ℕ) → ((p q : ℕ) → f p q ≡ 0) → sum2 n f ≡ 0
-sum2-zero n f h = sum-zero n (λ p. sum n (f p)) (λ p l. sum-zero n (f p) (λ q m. h p q))
+sum2-zero n f h = sum-zero n (λ p. sum-below n (f p)) (λ p l. sum-zero n (f p) (λ q m. h p q))
 
 pub sum4-zero : (n : ℕ) (f : ℕ → ℕ → ℕ → ℕ → ℕ) → ((a b c d : ℕ) → f a b c d ≡ 0) → sum4 n f ≡ 0
 sum4-zero n f h = sum2-zero n (λ a b. sum2 n (f a b)) (λ a b. sum2-zero n (f a b) (h a b))
@@ -144,27 +145,27 @@ module _ (n i j : ℕ) (hi : i < n) (hj : j < n) (f : ℕ → ℕ → ℕ → �
       ∙ sum-only n j _ hj (λ d e. h a b i d (inr e)))
 
 -- how many pass, as a sum: of numbers, and of pairs
-count-sum : (n : ℕ) (f : ℕ → Bool) → count n f ≡ sum n (λ k. gain (f k) 1)
-unfolding count sum
+count-sum : (n : ℕ) (f : ℕ → Bool) → count-below n f ≡ sum-below n (λ k. indicator (f k) 1)
+unfolding count-below sum-below
 count-sum zero f = refl
 count-sum (suc n) f = rw (count-sum n f)
 
 -- 1 where p < q, and they pass
 abbrev in-pair : (ℕ → ℕ → Bool) → ℕ → ℕ → ℕ
-in-pair f p q = gain (ltb p q) (gain (f p q) 1)
+in-pair f p q = indicator (ltb p q) (indicator (f p q) 1)
 
-pub pairs-sum : (n : ℕ) (f : ℕ → ℕ → Bool) → pairs n f ≡ sum2 n (in-pair f)
-unfolding sum
-pairs-sum zero f = unfold pairs in refl
+pub pairs-sum : (n : ℕ) (f : ℕ → ℕ → Bool) → pairs-below n f ≡ sum2 n (in-pair f)
+unfolding sum-below
+pairs-sum zero f = unfold pairs-below in refl
 pairs-sum (suc n) f =
     rw (pairs-suc n f, count-sum n (λ p. f p n))
     (omega
-    (arith, pairs-sum n f, sum-add n (λ p. sum n (in-pair f p)) (λ p. in-pair f p n), last-row, last-column))
+    (arith, pairs-sum n f, sum-add n (λ p. sum-below n (in-pair f p)) (λ p. in-pair f p n), last-row, last-column))
   where
-    last-row : sum (suc n) (in-pair f n) ≡ 0
+    last-row : sum-below (suc n) (in-pair f n) ≡ 0
     last-row = sum-zero (suc n) (in-pair f n) (λ q l. rw (le-ltb n q (omega arith)))
 
-    last-column : sum n (λ p. in-pair f p n) ≡ sum n (λ p. gain (f p n) 1)
+    last-column : sum-below n (λ p. in-pair f p n) ≡ sum-below n (λ p. indicator (f p n) 1)
     last-column = sum-ext n _ _ (λ p l. rw (lt-ltb p n l))
 
 -- the sum over a list of quartets
@@ -185,29 +186,30 @@ map-more f g [] x = omega arith
 map-more f g (y ∷ l) x = omega (arith, map-more f g l x)
 
 total-map :
-    (f : Quartet → ℕ) (g : ℕ → Quartet) (h : ℕ → ℕ) (m : ℕ) → total f (map g (tab m h)) ≡ sum m (λ k. f (g (h k)))
-unfolding total sum tab
+    (f : Quartet → ℕ) (g : ℕ → Quartet) (h : ℕ → ℕ) (m : ℕ) → total f (map g (tab m h)) ≡ sum-below m (λ k. f (g (h k)))
+unfolding total sum-below tab
 total-map f g h zero = refl
 total-map f g h (suc m) = map-more f g (tab m h) (h m) ∙ rw (total-map f g h m)
 
-flat-more :
+total-flat-more :
     (f : Quartet → ℕ) (g : ℕ → List Quartet) (l : List ℕ) (x : ℕ)
     → total f (flatMap g (l ++ (x ∷ []))) ≡ total f (flatMap g l) + total f (g x)
 unfolding total flatMap
-flat-more f g [] x = rw (total-append f (g x) []) (omega arith)
-flat-more f g (y ∷ l) x =
-    rw (total-append f (g y) _, total-append f (g y) (flatMap g l)) (omega (arith, flat-more f g l x))
+total-flat-more f g [] x = rw (total-append f (g x) []) (omega arith)
+total-flat-more f g (y ∷ l) x =
+    rw (total-append f (g y) _, total-append f (g y) (flatMap g l)) (omega (arith, total-flat-more f g l x))
 
 total-flat :
     (f : Quartet → ℕ) (g : ℕ → List Quartet) (h : ℕ → ℕ) (m : ℕ)
-    → total f (flatMap g (tab m h)) ≡ sum m (λ k. total f (g (h k)))
-unfolding total sum tab flatMap
+    → total f (flatMap g (tab m h)) ≡ sum-below m (λ k. total f (g (h k)))
+unfolding total sum-below tab flatMap
 total-flat f g h zero = refl
-total-flat f g h (suc m) = flat-more f g (tab m h) (h m) ∙ rw (total-flat f g h m)
+total-flat f g h (suc m) = total-flat-more f g (tab m h) (h m) ∙ rw (total-flat f g h m)
 
 -- the numbers above i
-sum-above : (n i : ℕ) (f : ℕ → ℕ) → sum (n - (i + 1)) (λ k. f (i + 1 + k)) ≡ sum n (λ k. gain (ltb i k) (f k))
-unfolding sum
+sum-above :
+    (n i : ℕ) (f : ℕ → ℕ) → sum-below (n - (i + 1)) (λ k. f (i + 1 + k)) ≡ sum-below n (λ k. indicator (ltb i k) (f k))
+unfolding sum-below
 sum-above zero i f = let e : 0 - (i + 1) ≡ 0 = omega arith in rw e
 sum-above (suc n) i f = elim (decLt i n) [
   | yes l ↦
@@ -232,7 +234,7 @@ rising-lt a b c d h =
 
 -- the sum over all four that rise
 abbrev pub over : ℕ → (ℕ → ℕ → ℕ → ℕ → ℕ) → ℕ
-over n f = sum4 n (λ a b c d. gain (rising a b c d) (f a b c d))
+over n f = sum4 n (λ a b c d. indicator (rising a b c d) (f a b c d))
 
 over-add :
     (n : ℕ) (f g : ℕ → ℕ → ℕ → ℕ → ℕ) → over n (λ a b c d. f a b c d + g a b c d) ≡ over n f + over n g
@@ -252,40 +254,41 @@ over-six n f g h k l m =
       over-add n l m,
     )
 
-gain-and : (x y : Bool) (k : ℕ) → gain x (gain y k) ≡ gain (x && y) k
+gain-and : (x y : Bool) (k : ℕ) → indicator x (indicator y k) ≡ indicator (x && y) k
 gain-and true y k = refl
 gain-and false y k = refl
 
 -- a test before the sum, and one of each member
 gain-each :
     (x : Bool) (n : ℕ) (y : ℕ → Bool) (f : ℕ → ℕ)
-    → gain x (sum n (λ k. gain (y k) (f k))) ≡ sum n (λ k. gain (x && y k) (f k))
+    → indicator x (sum-below n (λ k. indicator (y k) (f k))) ≡ sum-below n (λ k. indicator (x && y k) (f k))
 gain-each x n y f = gain-sum x n _ ∙ sum-ext n _ _ (λ k l. gain-and x (y k) (f k))
 
 -- The quartets that begin with a, b, c; with a, b; with a; all.
 module _ (n : ℕ) (f : Quartet → ℕ) where
-  total-three : (a b c : ℕ) → total f (with-three n a b c) ≡ sum n (λ d. gain (ltb c d) (f (four a b c d)))
+  total-three : (a b c : ℕ) → total f (with-three n a b c) ≡ sum-below n (λ d. indicator (ltb c d) (f (four a b c d)))
   unfolding with-three from
   total-three a b c =
       total-map f (four a b c) (λ k. c + 1 + k) (n - (c + 1)) ∙ sum-above n c (λ d. f (four a b c d))
 
   total-two :
-      (a b : ℕ) → total f (with-two n a b) ≡ sum2 n (λ c d. gain (ltb b c && ltb c d) (f (four a b c d)))
+      (a b : ℕ) → total f (with-two n a b) ≡ sum2 n (λ c d. indicator (ltb b c && ltb c d) (f (four a b c d)))
   unfolding with-two from
   total-two a b =
       total-flat f (with-three n a b) (λ k. b + 1 + k) (n - (b + 1))
       ∙ sum-above n b (λ c. total f (with-three n a b c))
       ∙ sum-ext n _ _ (λ c l.
-      ap (gain (ltb b c)) (total-three a b c) ∙ gain-each (ltb b c) n (ltb c) (λ d. f (four a b c d)))
+      ap (indicator (ltb b c)) (total-three a b c) ∙ gain-each (ltb b c) n (ltb c) (λ d. f (four a b c d)))
 
   total-one :
-      (a : ℕ) → total f (with-one n a) ≡ sum n (λ b. sum2 n (λ c d. gain (rising a b c d) (f (four a b c d))))
+      (a : ℕ) → total f (with-one n a)
+      ≡ sum-below n (λ b. sum2 n (λ c d. indicator (rising a b c d) (f (four a b c d))))
   unfolding with-one from
   total-one a =
       total-flat f (with-two n a) (λ k. a + 1 + k) (n - (a + 1))
       ∙ sum-above n a (λ b. total f (with-two n a b))
       ∙ sum-ext n _ _ (λ b l.
-      ap (gain (ltb a b)) (total-two a b)
+      ap (indicator (ltb a b)) (total-two a b)
       ∙ gain-sum (ltb a b) n _
       ∙ sum-ext n _ _ (λ c m. gain-each (ltb a b) n (λ d. ltb b c && ltb c d) (λ d. f (four a b c d))))
 

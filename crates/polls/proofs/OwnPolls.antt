@@ -14,10 +14,10 @@ use native.Mathlib.Decide.{decLt}
 use borrow.Author.Tests.{ltb-true, eqb-true, ne-eqb}
 use lib.Dec.{ltb, eqb}
 use lib.ListN.{length}
-use Rattle.base.specs.Numbers.{gain}
-use Rattle.base.specs.Lists.{every}
+use Rattle.base.specs.Numbers.{indicator}
+use Rattle.base.specs.Lists.{all-in}
 use Rattle.base.proofs.Bools.{bool?, never, is-false, or-none, and-both, and-is, eqb-same}
-use Rattle.base.proofs.Counts.{gain-or}
+use Rattle.base.proofs.Counts.{indicator-or}
 use Rattle.base.proofs.Lists.{tab-same}
 use Rattle.trees.specs.Trees.{Tree, IsTree}
 use Rattle.trees.specs.Quartets.{separates, paired, pairing, other, quartets}
@@ -29,9 +29,9 @@ use Rattle.refusals.specs.Refusals.{accepted, answered}
 use Rattle.refusals.proofs.Answers.{judged-none}
 use Rattle.polls.specs.declared.Record.{Record}
 use Rattle.polls.specs.declared.judging.Quartet.{Quartet}
-use Rattle.polls.specs.Records.{four, quartets-of, is-of, bad-record, bad-from, bad-records}
+use Rattle.polls.specs.Records.{four, quartets-of, is-of, record-refusal, records-refusal-from, records-refusal}
 use Rattle.polls.specs.Counts.{cell-of, of-code, adds, poll-cell, poll-table, is-own}
-use Rattle.polls.specs.Operations.{bad-sizes, judged-poll, polled}
+use Rattle.polls.specs.Operations.{poll-sizes-refusal, poll-refusal, poll-answer}
 use Rattle.polls.specs.Steps.{Leaves}
 use Rattle.polls.proofs.Counts.{of-four, adds-code, pairs-apart, poll-mirror}
 use Rattle.polls.proofs.Records.{passes-of, same-leaves}
@@ -45,7 +45,7 @@ use Rattle.polls.proofs.Orders.{orders, no-order, one-order}
 -- what just one of three tests says, as a sum over the three
 of-one :
     (x y z : Bool) (u v w k : ℕ) → exactly-one x y z ≡ true → (x ≡ true → k ≡ u) → (x ≡ false → y ≡ true → k ≡ v)
-    → (x ≡ false → y ≡ false → k ≡ w) → k ≡ gain x u + (gain y v + gain z w)
+    → (x ≡ false → y ≡ false → k ≡ w) → k ≡ indicator x u + (indicator y v + indicator z w)
 unfolding exactly-one
 of-one true false false u v w k h f g e = f refl ∙ omega arith
 of-one false true false u v w k h f g e = g refl refl ∙ omega arith
@@ -95,22 +95,23 @@ same-record T q r h g =
     rw (← e .0, ← e .1, ← e .2, ← e .3, ← code)
 
 own-total :
-    (T : Tree) (i j k : ℕ) (Q : List Quartet) (R : List Record) → length R ≡ length Q → bad-from k Q R ≡ none
-    → every (is-own T) R ≡ true → poll-cell R i j ≡ total (own-adds T i j) Q
-unfolding bad-from every poll-cell total own-adds
+    (T : Tree) (i j k : ℕ) (Q : List Quartet) (R : List Record) → length R ≡ length Q
+    → records-refusal-from k Q R ≡ none
+    → all-in (is-own T) R ≡ true → poll-cell R i j ≡ total (own-adds T i j) Q
+unfolding records-refusal-from all-in poll-cell total own-adds
 own-total T i j k [] [] l h g = refl
 own-total T i j k [] (r ∷ R) l h g = absurd (omega arith)
 own-total T i j k (q ∷ Q) [] l h g = absurd (omega arith)
 own-total T i j k (q ∷ Q) (r ∷ R) l h g =
-    let x = judged-none (bad-record k q r) (bad-from (suc k) Q R ∷ []) h in
-    let y = judged-none (bad-from (suc k) Q R) [] (x .1) in
-    let z = and-both (is-own T r) (every (is-own T) R) g in
+    let x = judged-none (record-refusal k q r) (records-refusal-from (suc k) Q R ∷ []) h in
+    let y = judged-none (records-refusal-from (suc k) Q R) [] (x .1) in
+    let z = and-both (is-own T r) (all-in (is-own T) R) g in
     rw (same-record T q r (passes-of k q r (x .0)) (z .0), own-total T i j (suc k) Q R (omega arith) (y .0) (z .1))
 
 -- it adds 1 to the cells of that pairing
 own-pairing :
     (T : Tree) (i j a b c d p : ℕ) → pairing T a b c d ≡ p
-    → own-adds T i j (four a b c d) ≡ gain (of-code p (own-record T (four a b c d)) i j) 1
+    → own-adds T i j (four a b c d) ≡ indicator (of-code p (own-record T (four a b c d)) i j) 1
 unfolding own-adds own-record
 own-pairing T i j a b c d p e = adds-code (own-record T (four a b c d)) p e i j
 
@@ -158,13 +159,13 @@ module _ (n : ℕ) (T : Tree) (t : IsTree n T) (i j : ℕ) (ij : i < j) (jn : j 
 
   -- i and j are paired against p and q
   abbrev against : ℕ → ℕ → ℕ
-  against p q = gain (paired T i j p q) 1
+  against p q = indicator (paired T i j p q) 1
 
   -- i and j are the one pair, or the other
   abbrev either : (x y z w : ℕ) → ℕ
-  either x y z w = gain (hits x y) (against z w) + gain (hits z w) (against x y)
+  either x y z w = indicator (hits x y) (against z w) + indicator (hits z w) (against x y)
 
-  hit : (x y p q : ℕ) → gain (hits x y) (against p q) ≡ gain (hits x y) (gain (paired T x y p q) 1)
+  hit : (x y p q : ℕ) → indicator (hits x y) (against p q) ≡ indicator (hits x y) (indicator (paired T x y p q) 1)
   hit x y p q = elim (bool? (hits x y)) [
     | inl h ↦ (let e = both-are i j x y h in rw (← e .0, ← e .1))
     | inr h ↦ rw h
@@ -172,7 +173,7 @@ module _ (n : ℕ) (T : Tree) (t : IsTree n T) (i j : ℕ) (ij : i < j) (jn : j 
 
   either-cell :
       (x y z w : ℕ) → x < y → z < w → x ≢ z → x ≢ w → y ≢ z → y ≢ w
-      → either x y z w ≡ gain (paired T x y z w) (gain (cell-of x y i j || cell-of z w i j) 1)
+      → either x y z w ≡ indicator (paired T x y z w) (indicator (cell-of x y i j || cell-of z w i j) 1)
   either-cell x y z w xy zw xz xw yz yw = elim (bool? (paired T x y z w)) [
     | inl e ↦
         rw (
@@ -180,7 +181,7 @@ module _ (n : ℕ) (T : Tree) (t : IsTree n T) (i j : ℕ) (ij : i < j) (jn : j 
           hit z w x y,
           ← paired-either T x y z w,
           e,
-          gain-or (cell-of x y i j) (cell-of z w i j)
+          indicator-or (cell-of x y i j) (cell-of z w i j)
               (pairs-apart x y z w i j xz xw yz yw),
           cell-rising x y i j xy ij,
           cell-rising z w i j zw ij,
@@ -220,7 +221,7 @@ module _ (n : ℕ) (T : Tree) (t : IsTree n T) (i j : ℕ) (ij : i < j) (jn : j 
     | inr d ↦ d (sym (r .1))
   ])
 
-  gone : (a b c d x y k : ℕ) → (x ≢ i) ⊎ (y ≢ j) → gain (rising a b c d) (gain (hits x y) k) ≡ 0
+  gone : (a b c d x y k : ℕ) → (x ≢ i) ⊎ (y ≢ j) → indicator (rising a b c d) (indicator (hits x y) k) ≡ 0
   gone a b c d x y k h = rw (miss x y h) (gain-none (rising a b c d))
 
   here : hits i j ≡ true
@@ -230,22 +231,28 @@ module _ (n : ℕ) (T : Tree) (t : IsTree n T) (i j : ℕ) (ij : i < j) (jn : j 
   hi = omega arith
 
   -- the six ways
-  over-ab : over n (λ a b c d. gain (hits a b) (against c d)) ≡ sum2 n (λ p q. gain (rising i j p q) (against p q))
+  over-ab :
+      over n (λ a b c d. indicator (hits a b) (against c d)) ≡ sum2 n (λ p q. indicator (rising i j p q) (against p q))
   over-ab = only-ab n i j hi jn _ (λ a b c d. gone a b c d a b _) ∙ rw here
 
-  over-cd : over n (λ a b c d. gain (hits c d) (against a b)) ≡ sum2 n (λ p q. gain (rising p q i j) (against p q))
+  over-cd :
+      over n (λ a b c d. indicator (hits c d) (against a b)) ≡ sum2 n (λ p q. indicator (rising p q i j) (against p q))
   over-cd = only-cd n i j hi jn _ (λ a b c d. gone a b c d c d _) ∙ rw here
 
-  over-ac : over n (λ a b c d. gain (hits a c) (against b d)) ≡ sum2 n (λ p q. gain (rising i p j q) (against p q))
+  over-ac :
+      over n (λ a b c d. indicator (hits a c) (against b d)) ≡ sum2 n (λ p q. indicator (rising i p j q) (against p q))
   over-ac = only-ac n i j hi jn _ (λ a b c d. gone a b c d a c _) ∙ rw here
 
-  over-bd : over n (λ a b c d. gain (hits b d) (against a c)) ≡ sum2 n (λ p q. gain (rising p i q j) (against p q))
+  over-bd :
+      over n (λ a b c d. indicator (hits b d) (against a c)) ≡ sum2 n (λ p q. indicator (rising p i q j) (against p q))
   over-bd = only-bd n i j hi jn _ (λ a b c d. gone a b c d b d _) ∙ rw here
 
-  over-ad : over n (λ a b c d. gain (hits a d) (against b c)) ≡ sum2 n (λ p q. gain (rising i p q j) (against p q))
+  over-ad :
+      over n (λ a b c d. indicator (hits a d) (against b c)) ≡ sum2 n (λ p q. indicator (rising i p q j) (against p q))
   over-ad = only-ad n i j hi jn _ (λ a b c d. gone a b c d a d _) ∙ rw here
 
-  over-bc : over n (λ a b c d. gain (hits b c) (against a d)) ≡ sum2 n (λ p q. gain (rising p i j q) (against p q))
+  over-bc :
+      over n (λ a b c d. indicator (hits b c) (against a d)) ≡ sum2 n (λ p q. indicator (rising p i j q) (against p q))
   over-bc = only-bc n i j hi jn _ (λ a b c d. gone a b c d b c _) ∙ rw here
 
   -- together: the orders of i, j and p, q
@@ -253,15 +260,15 @@ module _ (n : ℕ) (T : Tree) (t : IsTree n T) (i j : ℕ) (ij : i < j) (jn : j 
       over n (λ a b c d. either a b c d + (either a c b d + either a d b c))
       ≡ sum2 n (λ p q. orders i j ij p q (against p q))
   over-orders =
-      over-six n (λ a b c d. gain (hits a b) (against c d)) (λ a b c d. gain (hits c d) (against a b))
-      (λ a b c d. gain (hits a c) (against b d)) (λ a b c d. gain (hits b d) (against a c))
-      (λ a b c d. gain (hits a d) (against b c)) (λ a b c d. gain (hits b c) (against a d))
+      over-six n (λ a b c d. indicator (hits a b) (against c d)) (λ a b c d. indicator (hits c d) (against a b))
+      (λ a b c d. indicator (hits a c) (against b d)) (λ a b c d. indicator (hits b d) (against a c))
+      (λ a b c d. indicator (hits a d) (against b c)) (λ a b c d. indicator (hits b c) (against a d))
       ∙ rw (over-ab, over-cd, over-ac, over-bd, over-ad, over-bc) (sym (sum2-six n _ _ _ _ _ _))
 
   orders-pass :
       (p q : ℕ)
       → orders i j ij p q (against p q)
-      ≡ gain (ltb p q) (gain ((other i j p && other i j q) && paired T i j p q) 1)
+      ≡ indicator (ltb p q) (indicator ((other i j p && other i j q) && paired T i j p q) 1)
   orders-pass p q = elim (bool? (paired T i j p q)) [
     | inr u ↦ rw (u, and-false (other i j p && other i j q), gain-none (ltb p q)) (simp gain-none)
     | inl h ↦ elim (bool? (ltb p q)) [
@@ -285,9 +292,9 @@ diagonal-total n T i =
 
 -- A poll of n leaves whose records pass and have the own pairings of the tree T.
 module _ (n : ℕ) (T : Tree) (t : IsTree n T) (R : List Record) (due : length R ≡ length (quartets-of n))
-    (pass : bad-records n R ≡ none) (own : every (is-own T) R ≡ true) where
+    (pass : records-refusal n R ≡ none) (own : all-in (is-own T) R ≡ true) where
   as-total : (i j : ℕ) → poll-cell R i j ≡ total (own-adds T i j) (quartets-of n)
-  as-total i j = own-total T i j 0 (quartets-of n) R due (unfold bad-records in pass) own
+  as-total i j = own-total T i j 0 (quartets-of n) R due (unfold records-refusal in pass) own
 
   own-cells : (i j : ℕ) → i < n → j < n → poll-cell R i j ≡ quartets n T i j
   own-cells i j hi hj = elim (decLt i j) [
@@ -315,13 +322,13 @@ accepted-is (some r) x y h = absurd (let z : _≡_ {A = ℕ} 0 1 = cc in omega a
 
 -- The law: where a poll is accepted and every record has the tree's own pairing, the sums are the tree's table.
 pub own-poll :
-    (n : ℕ) (R : List Record) (room : ℕ) (t : List ℕ) → polled n R room ≡ accepted t → (T : Tree) → IsTree n T
-    → every (is-own T) R ≡ true → t ≡ table-of n T
-unfolding polled judged-poll
+    (n : ℕ) (R : List Record) (room : ℕ) (t : List ℕ) → poll-answer n R room ≡ accepted t → (T : Tree) → IsTree n T
+    → all-in (is-own T) R ≡ true → t ≡ table-of n T
+unfolding poll-answer poll-refusal
 own-poll n R room t h T tree own =
-    let answer = accepted-is (judged-poll n R room) (poll-table n R) t h in
-    let sizes = judged-none (bad-sizes n (length R) room) (bad-records n R ∷ []) (answer .0) in
-    let records = judged-none (bad-records n R) [] (sizes .1) in
+    let answer = accepted-is (poll-refusal n R room) (poll-table n R) t h in
+    let sizes = judged-none (poll-sizes-refusal n (length R) room) (records-refusal n R ∷ []) (answer .0) in
+    let records = judged-none (records-refusal n R) [] (sizes .1) in
     let sized = sizes-pass n (length R) room (sizes .0) in
     sym (answer .1)
     ∙ own-table n T tree R (sized .due ∙ sym (quartets-count n)) (records .0) own (omega (arith, sized .fewest))

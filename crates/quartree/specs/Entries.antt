@@ -2,10 +2,11 @@
 use mathlib.Core.List.{List, [], _∷_}
 use Prim.Native.Nat.{ℕ}
 use lib.ListN.{length}
-use Rattle.refusals.specs.Refusals.{Answer, judged, unless}
-use Rattle.listings.specs.Sizes.{bad-count, bad-length}
-use Rattle.pairings.specs.Operations.{pairing-asked}
+use Rattle.refusals.specs.Refusals.{Answer, first-refusal, unless}
+use Rattle.listings.specs.Sizes.{count-refusal, length-refusal}
+use Rattle.pairings.specs.Operations.{pairing-answer}
 
 -- a question lent as a list: 1, then 2 where it has not four numbers, then as the operation has it
-unfoldable pub question-asked : (n : ℕ) (l q : List ℕ) → Answer ℕ
-question-asked n l q = unless (judged (bad-count n ∷ bad-length 4 (length q) ∷ [])) (pairing-asked n l q)
+unfoldable pub lent-pairing-answer : (n : ℕ) (l q : List ℕ) → Answer ℕ
+lent-pairing-answer n l q =
+    unless (first-refusal (count-refusal n ∷ length-refusal 4 (length q) ∷ [])) (pairing-answer n l q)

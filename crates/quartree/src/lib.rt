@@ -6,19 +6,19 @@ ghost use mathlib.Core.Path.{_≡_};
 ghost use Prim.Native.Nat.{_+_, _*_, _<_};
 ghost use lib.ListN.{length};
 ghost use Rattle.refusals.specs.Refusals.{figures-of, written};
-ghost use Rattle.listings.specs.Operations.{checked, standardised};
-ghost use Rattle.splits.specs.Operations.{split-listing};
-ghost use Rattle.counts.specs.Operations.{tabled};
-ghost use Rattle.gaps.specs.Operations.{gapped};
+ghost use Rattle.listings.specs.Operations.{check-answer, standardise-answer};
+ghost use Rattle.splits.specs.Operations.{splits-answer};
+ghost use Rattle.tree_tables.specs.Operations.{table-answer};
+ghost use Rattle.gaps.specs.Operations.{gap-answer};
 ghost use Rattle.reconstruct.specs.Operations.{rebuild-answer, guided-answer};
-ghost use Rattle.sheets.specs.Sheets.{leaves-of, offset-of, start, name};
-ghost use Rattle.sheet_tables.specs.Operations.{tabled-sheet};
-ghost use Rattle.names.specs.Operations.{name-asked};
-ghost use Rattle.strains.specs.Operations.{sheet-listing-bytes};
-ghost use Rattle.polls.specs.Operations.{polled};
+ghost use Rattle.sheets.specs.Sheets.{leaves-of, offset-of, name-start, name};
+ghost use Rattle.sheet_tables.specs.Operations.{sheet-table-answer};
+ghost use Rattle.sheet_names.specs.Operations.{name-answer};
+ghost use Rattle.sheet_trees.specs.Operations.{sheet-bytes-answer};
+ghost use Rattle.polls.specs.Operations.{poll-answer};
 ghost use Rattle.quartree.specs.Replies.{figure, refusal-reply, reply, number-reply, reply-with};
 ghost use Rattle.quartree.specs.Replies.{number-alone};
-ghost use Rattle.quartree.specs.Entries.{question-asked};
+ghost use Rattle.quartree.specs.Entries.{lent-pairing-answer};
 ghost use Rattle.quartree.specs.Steps.{AllSmall, SmallFigures, outcome-reply, outcome-reply-with, SmallPaired};
 ghost use Rattle.quartree.specs.Steps.{paired-reply};
 
@@ -91,7 +91,7 @@ fn reply_with(x: usize, answer: Outcome) -> u64
 // Whether a listing keeps the rules: 1, 2, 7, 8.
 #[no_mangle]
 pub extern "C" fn quartree_check(n: usize, listing: &[u16]) -> u64
-    ensures { λ r. ⌜ r ≡ reply (checked n (now (listing .entry))) ⌝ }
+    ensures { λ r. ⌜ r ≡ reply (check-answer n (now (listing .entry))) ⌝ }
 {
     reply_of(listings::check(n, listing))
 }
@@ -99,9 +99,9 @@ pub extern "C" fn quartree_check(n: usize, listing: &[u16]) -> u64
 // The standard listing of the tree that a listing stands for: 1, 2, 3, 7, 8.
 #[no_mangle]
 pub extern "C" fn quartree_standardise(n: usize, listing: &[u16], out: &mut [u16]) -> u64
-    ensures answer { λ r. ⌜ r ≡ reply (standardised n (now (listing .entry)) (length (now (out .entry)))) ⌝ }
+    ensures answer { λ r. ⌜ r ≡ reply (standardise-answer n (now (listing .entry)) (length (now (out .entry)))) ⌝ }
     ensures buffer { λ r. ⌜ now (out .exit)
-        ≡ written (standardised n (now (listing .entry)) (length (now (out .entry)))) (now (out .entry)) ⌝ }
+        ≡ written (standardise-answer n (now (listing .entry)) (length (now (out .entry)))) (now (out .entry)) ⌝ }
 {
     reply_of(listings::standardise(n, listing, out))
 }
@@ -109,9 +109,9 @@ pub extern "C" fn quartree_standardise(n: usize, listing: &[u16], out: &mut [u16
 // The splits of the tree that a listing stands for, sixteen bytes each: 1, 2, 3, 7, 8.
 #[no_mangle]
 pub extern "C" fn quartree_splits(n: usize, listing: &[u16], out: &mut [u8]) -> u64
-    ensures answer { λ r. ⌜ r ≡ reply (split-listing n (now (listing .entry)) (length (now (out .entry)))) ⌝ }
+    ensures answer { λ r. ⌜ r ≡ reply (splits-answer n (now (listing .entry)) (length (now (out .entry)))) ⌝ }
     ensures buffer { λ r. ⌜ now (out .exit)
-        ≡ written (split-listing n (now (listing .entry)) (length (now (out .entry)))) (now (out .entry)) ⌝ }
+        ≡ written (splits-answer n (now (listing .entry)) (length (now (out .entry)))) (now (out .entry)) ⌝ }
 {
     reply_of(splits::splits(n, listing, out))
 }
@@ -119,7 +119,7 @@ pub extern "C" fn quartree_splits(n: usize, listing: &[u16], out: &mut [u8]) -> 
 // How the tree that a listing stands for pairs four leaves: 1, 2, 7, 8, 9.
 #[no_mangle]
 pub extern "C" fn quartree_pairing(n: usize, listing: &[u16], question: &[u16]) -> u64
-    ensures { λ r. ⌜ r ≡ number-reply (question-asked n (now (listing .entry)) (now (question .entry))) ⌝ }
+    ensures { λ r. ⌜ r ≡ number-reply (lent-pairing-answer n (now (listing .entry)) (now (question .entry))) ⌝ }
 {
     if !listings::leaf_count(n) {
         return 1;
@@ -134,20 +134,20 @@ pub extern "C" fn quartree_pairing(n: usize, listing: &[u16], question: &[u16]) 
 // The table of the tree that a listing stands for: 1, 2, 3, 7, 8.
 #[no_mangle]
 pub extern "C" fn quartree_table(n: usize, listing: &[u16], out: &mut [u32]) -> u64
-    ensures answer { λ r. ⌜ r ≡ reply (tabled n (now (listing .entry)) (length (now (out .entry)))) ⌝ }
+    ensures answer { λ r. ⌜ r ≡ reply (table-answer n (now (listing .entry)) (length (now (out .entry)))) ⌝ }
     ensures buffer { λ r. ⌜ now (out .exit)
-        ≡ written (tabled n (now (listing .entry)) (length (now (out .entry)))) (now (out .entry)) ⌝ }
+        ≡ written (table-answer n (now (listing .entry)) (length (now (out .entry)))) (now (out .entry)) ⌝ }
 {
-    reply_of(counts::table(n, listing, out))
+    reply_of(tree_tables::table(n, listing, out))
 }
 
 // The gap between a table and the tree that a listing stands for: 1, 2, 3, 7, 8, 4, 5.
 #[no_mangle]
 pub extern "C" fn quartree_gap(n: usize, cells: &[u32], listing: &[u16], out: &mut [i64]) -> u64
     ensures answer { λ r. ⌜ r
-        ≡ reply (gapped n (now (cells .entry)) (now (listing .entry)) (length (now (out .entry)))) ⌝ }
+        ≡ reply (gap-answer n (now (cells .entry)) (now (listing .entry)) (length (now (out .entry)))) ⌝ }
     ensures buffer { λ r. ⌜ now (out .exit)
-        ≡ written (gapped n (now (cells .entry)) (now (listing .entry)) (length (now (out .entry))))
+        ≡ written (gap-answer n (now (cells .entry)) (now (listing .entry)) (length (now (out .entry))))
         (now (out .entry)) ⌝ }
 {
     reply_of(gaps::gap(n, cells, listing, out))
@@ -184,9 +184,9 @@ pub extern "C" fn quartree_rebuild_guided(
 #[no_mangle]
 pub extern "C" fn quartree_sheet_table(sheet: &[u8], out: &mut [u32]) -> u64
     ensures answer { λ r. ⌜ r ≡ reply-with (leaves-of (now (sheet .entry)))
-        (tabled-sheet (now (sheet .entry)) (length (now (out .entry)))) ⌝ }
+        (sheet-table-answer (now (sheet .entry)) (length (now (out .entry)))) ⌝ }
     ensures buffer { λ r. ⌜ now (out .exit)
-        ≡ written (tabled-sheet (now (sheet .entry)) (length (now (out .entry)))) (now (out .entry)) ⌝ }
+        ≡ written (sheet-table-answer (now (sheet .entry)) (length (now (out .entry)))) (now (out .entry)) ⌝ }
 {
     reply_with(
         sheets::leaf_count_of(sheet),
@@ -199,10 +199,10 @@ pub extern "C" fn quartree_sheet_table(sheet: &[u8], out: &mut [u32]) -> u64
 #[no_mangle]
 pub extern "C" fn quartree_sheet_name(sheet: &[u8], leaf: usize) -> u64
     ensures { λ r. ⌜ r
-        ≡ reply-with (256 * (start (now (sheet .entry)) leaf + 1) + length (name (now (sheet .entry)) leaf))
-        (name-asked (now (sheet .entry)) (leaves-of (now (sheet .entry))) (offset-of (now (sheet .entry))) leaf) ⌝ }
+        ≡ reply-with (256 * (name-start (now (sheet .entry)) leaf + 1) + length (name (now (sheet .entry)) leaf))
+        (name-answer (now (sheet .entry)) (leaves-of (now (sheet .entry))) (offset-of (now (sheet .entry))) leaf) ⌝ }
 {
-    let place = names::name_place(sheet, leaf);
+    let place = sheet_names::name_place(sheet, leaf);
     let outcome = place.outcome;
     reply_with(256 * place.first + place.many, outcome)
 }
@@ -210,9 +210,9 @@ pub extern "C" fn quartree_sheet_name(sheet: &[u8], leaf: usize) -> u64
 // A poll added up: 1, 2, 3, 10, 11.
 #[no_mangle]
 pub extern "C" fn quartree_poll(n: usize, records: &[polls::Record], out: &mut [u32]) -> u64
-    ensures answer { λ r. ⌜ r ≡ reply (polled n (now (records .entry)) (length (now (out .entry)))) ⌝ }
+    ensures answer { λ r. ⌜ r ≡ reply (poll-answer n (now (records .entry)) (length (now (out .entry)))) ⌝ }
     ensures buffer { λ r. ⌜ now (out .exit)
-        ≡ written (polled n (now (records .entry)) (length (now (out .entry)))) (now (out .entry)) ⌝ }
+        ≡ written (poll-answer n (now (records .entry)) (length (now (out .entry)))) (now (out .entry)) ⌝ }
 {
     reply_of(polls::poll(n, records, out))
 }
@@ -222,9 +222,9 @@ pub extern "C" fn quartree_poll(n: usize, records: &[polls::Record], out: &mut [
 #[no_mangle]
 pub extern "C" fn quartree_rebuild_sheet(sheet: &[u8], listing: &mut [u8]) -> u32
     ensures answer { λ r. ⌜ r
-        ≡ number-alone (sheet-listing-bytes (now (sheet .entry)) (length (now (listing .entry)))) ⌝ }
+        ≡ number-alone (sheet-bytes-answer (now (sheet .entry)) (length (now (listing .entry)))) ⌝ }
     ensures buffer { λ r. ⌜ now (listing .exit)
-        ≡ written (sheet-listing-bytes (now (sheet .entry)) (length (now (listing .entry)))) (now (listing .entry)) ⌝ }
+        ≡ written (sheet-bytes-answer (now (sheet .entry)) (length (now (listing .entry)))) (now (listing .entry)) ⌝ }
 {
-    strains::answer_number(strains::listing_bytes_of(sheet, listing))
+    sheet_trees::answer_number(sheet_trees::listing_bytes_of(sheet, listing))
 }

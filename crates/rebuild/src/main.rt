@@ -2,7 +2,7 @@
 // second child), and `end`; or, if the answer holds no tree, `refused` and the number.
 use refusals::Outcome;
 ghost use Prim.Native.Nat.{_≤_};
-ghost use Rattle.pairs.specs.Limits.{most-leaves};
+ghost use Rattle.limits.specs.Limits.{most-leaves};
 
 // One byte more than the longest sheet has, so that a longer input is refused and not cut.
 const INPUT: usize = 21513;
@@ -37,10 +37,10 @@ fn main() {
     let mut input = [0u8; INPUT];
     let got = io::read_full(0, &mut input);
     let mut listing = [0u16; LISTING];
-    let answer = strains::listing_of(&input[..got], &mut listing);
+    let answer = sheet_trees::listing_of(&input[..got], &mut listing);
     let Outcome::Done = answer else {
         io::write_all(1, b"refused ");
-        io::print_decimal(1, strains::answer_number(answer) as u64);
+        io::print_decimal(1, sheet_trees::answer_number(answer) as u64);
         io::write_all(1, b"\n");
         return;
     };

@@ -13,16 +13,16 @@ use Rattle.refusals.specs.Refusals.{accepted, refused}
 use Rattle.refusals.proofs.Answers.{judged-none, unless-accepted, unless-passed, accepted-same, accepted-not-refused}
 use Rattle.trees.specs.Listings.{KeepsRules, tree-of, standard}
 use Rattle.trees.specs.Tables.{HasTable}
-use Rattle.listings.specs.Sizes.{bad-count, bad-length}
-use Rattle.listings.proofs.Judged.{length-right}
-use Rattle.tables.specs.Operations.{judged-table}
-use Rattle.tables.proofs.Judging.{Accepted, accepted-table}
-use Rattle.merging.specs.MergeLists.{Pair, after, each-eligible, Finished, subtrees, left}
+use Rattle.listings.specs.Sizes.{count-refusal, length-refusal}
+use Rattle.listings.proofs.ListingRefusal.{length-right}
+use Rattle.table_checks.specs.Operations.{table-refusal}
+use Rattle.table_checks.proofs.TableRefusal.{Accepted, accepted-table}
+use Rattle.merging.specs.MergeLists.{Pair, after, each-eligible, Finished, subtrees, final-listing}
 use Rattle.merging.specs.Rebuilds.{rebuilt, guided}
 use Rattle.merging.specs.Demand3.{OneTree, NoTreeHas, FirstIneligible}
 use Rattle.merging.proofs.Rebuilds.{own-list, own-finished, guided-refused}
 use Rattle.merging.proofs.Demand3.{demand-3, guided-own}
-use Rattle.reconstruct.specs.Operations.{rebuild-answer, proposals, judged-guided, guided-answer}
+use Rattle.reconstruct.specs.Operations.{rebuild-answer, proposals, guided-refusal, guided-answer}
 use Rattle.reconstruct.proofs.Proposals.{many-proposals}
 
 module _ (n : ℕ) (t : List ℕ) (room : ℕ) where
@@ -31,7 +31,7 @@ module _ (n : ℕ) (t : List ℕ) (room : ℕ) where
   NoTreeHasIt = (l : List ℕ) → KeepsRules n l → HasTable n 1 t (tree-of n l) → ⊥
 
   -- The call passes the checks placed before 6.
-  module _ (passes : judged-table n t (2 * (n - 2)) room ≡ none) where
+  module _ (passes : table-refusal n t (2 * (n - 2)) room ≡ none) where
     table : Accepted n t (2 * (n - 2)) room
     table = accepted-table n t (2 * (n - 2)) room passes
 
@@ -51,7 +51,7 @@ module _ (n : ℕ) (t : List ℕ) (room : ℕ) where
     refused-exactly-when = elim either [
       | inl one ↦ (
         λ e. absurd (accepted-not-refused _ _ (sym (one .own-rebuild) ∙ sym answer ∙ e)),
-        λ none. absurd (none (left n (own-list n 1 t)) (one .is-a-tree) (one .has-the-table)),
+        λ none. absurd (none (final-listing n (own-list n 1 t)) (one .is-a-tree) (one .has-the-table)),
       )
       | inr several ↦ (λ e. several .none-has-the-table, λ none. answer ∙ several .own-rebuild)
     ]
@@ -66,11 +66,11 @@ module _ (n : ℕ) (t : List ℕ) (room : ℕ) where
 
   -- The call is accepted, and the listing is l.
   module _ (l : List ℕ) (e : rebuild-answer n t room ≡ accepted l) where
-    passed : judged-table n t (2 * (n - 2)) room ≡ none
+    passed : table-refusal n t (2 * (n - 2)) room ≡ none
     unfolding rebuild-answer
-    passed = (unless-accepted (judged-table n t (2 * (n - 2)) room) (rebuilt n 1 t) l e) .0
+    passed = (unless-accepted (table-refusal n t (2 * (n - 2)) room) (rebuilt n 1 t) l e) .0
 
-    found : OneTree n 1 t (own-list n 1 t) × (left n (own-list n 1 t) ≡ l)
+    found : OneTree n 1 t (own-list n 1 t) × (final-listing n (own-list n 1 t) ≡ l)
     found = elim (either passed) [
       | inl one ↦ (one, accepted-same _ _ (sym (one .own-rebuild) ∙ sym (answer passed) ∙ e))
       | inr several ↦ absurd (accepted-not-refused _ _ (sym e ∙ answer passed ∙ several .own-rebuild))
@@ -90,18 +90,18 @@ module _ (n : ℕ) (t : List ℕ) (room : ℕ) where
     rebuilt-is-the-only-one l′ k h = found .0 .is-the-only-one l′ k h ∙ found .1
 
     -- every finished list of eligible merges ends in one tree with that listing
-    pub rebuilt-any-order : (L : List Pair) → Finished n 1 t L → (subtrees n (after L) ≡ 1) × (left n L ≡ l)
+    pub rebuilt-any-order : (L : List Pair) → Finished n 1 t L → (subtrees n (after L) ≡ 1) × (final-listing n L ≡ l)
     rebuilt-any-order L f = let r = found .0 .every-other-list L f in (r .0, r .1 ∙ found .1)
 
 -- The guided rebuild, in a call that passes the checks placed before 12.
-module _ (n : ℕ) (t p : List ℕ) (room : ℕ) (passes : judged-guided n t p room ≡ none) where
+module _ (n : ℕ) (t p : List ℕ) (room : ℕ) (passes : guided-refusal n t p room ≡ none) where
   -- the sizes are right, and nothing of the table is refused
-  pub guided-sizes : (length p ≡ 2 * (n - 1)) × (judged-table n t (2 * (n - 2)) room ≡ none)
-  unfolding judged-guided
+  pub guided-sizes : (length p ≡ 2 * (n - 1)) × (table-refusal n t (2 * (n - 2)) room ≡ none)
+  unfolding guided-refusal
   guided-sizes =
-      let a = judged-none (bad-count n) _ passes in
-      let b = judged-none (bad-length (2 * (n - 1)) (length p)) _ (a .1) in
-      (length-right _ _ (b .0), (judged-none (judged-table n t (2 * (n - 2)) room) _ (b .1)) .0)
+      let a = judged-none (count-refusal n) _ passes in
+      let b = judged-none (length-refusal (2 * (n - 1)) (length p)) _ (a .1) in
+      (length-right _ _ (b .0), (judged-none (table-refusal n t (2 * (n - 2)) room) _ (b .1)) .0)
 
   guided-is : guided-answer n t p room ≡ guided n 1 t (proposals p)
   unfolding guided-answer

@@ -1,25 +1,28 @@
 -- The table of the sheet of 01, computed from the definitions.
 use mathlib.Core.Path.{_≡_, refl}
 use mathlib.Core.List.{[], _∷_, _++_}
-use Rattle.base.specs.Numbers.{sum}
-use Rattle.base.specs.Lists.{tab, any, every}
-use Rattle.pairs.specs.Pairs.{P}
-use Rattle.refusals.specs.Refusals.{accepted, judged, answered}
-use Rattle.listings.specs.Sizes.{bad-count, bad-room}
-use Rattle.sheets.specs.Sheets.{number, name-at, start, name, name-byte, is-name, same, cells, trailer, leaves-of}
+use Rattle.base.specs.Numbers.{sum-below}
+use Rattle.base.specs.Lists.{tab, any-in, all-in}
+use Rattle.pair_counts.specs.Pairs.{P}
+use Rattle.refusals.specs.Refusals.{accepted, first-refusal, answered}
+use Rattle.listings.specs.Sizes.{count-refusal, room-refusal}
+use Rattle.sheets.specs.Sheets.{number, name-at, name-start, name, name-byte, is-name, same, cells, trailer, leaves-of}
 use Rattle.sheets.specs.Sheets.{offset-of, cells-of}
-use Rattle.sheets.specs.Operations.{right-ends, bad-ends, right-sum, bad-sum, good-at, repeated, bad-name, bad-rest}
-use Rattle.sheets.specs.Operations.{bad-names, judged-figures, judged-sheet}
-use Rattle.sheets.proofs.Examples.{five}
-use Rattle.sheet_tables.specs.Operations.{cells-before, mirrored, table-with, tabled-sheet}
+use Rattle.sheets.specs.Operations.{right-ends, sheet-ends-refusal, right-sum, sheet-length-refusal, good-at, repeated}
+use Rattle.sheets.specs.Operations.{name-refusal, names-end-refusal}
+use Rattle.sheets.specs.Operations.{names-refusal, kept-sheet-refusal, sheet-refusal}
+use Rattle.sheets.proofs.Examples.{five-sheet}
+use Rattle.sheet_tables.specs.Operations.{cells-before, mirrored, table-with, sheet-table-answer}
 
-five-table : tabled-sheet five 25 ≡ accepted (
+five-table : sheet-table-answer five-sheet 25 ≡ accepted (
     (0 ∷ 3 ∷ 1 ∷ 0 ∷ 0 ∷ [])
     ++ (3 ∷ 0 ∷ 1 ∷ 0 ∷ 0 ∷ [])
     ++ (1 ∷ 1 ∷ 0 ∷ 1 ∷ 1 ∷ [])
     ++ (0 ∷ 0 ∷ 1 ∷ 0 ∷ 3 ∷ [])
     ++ (0 ∷ 0 ∷ 1 ∷ 3 ∷ 0 ∷ []))
-unfolding number name-at start name name-byte is-name same cells cells-before mirrored table-with trailer leaves-of
-    offset-of cells-of right-ends bad-ends right-sum bad-sum good-at repeated bad-name bad-rest bad-names judged-figures
-    judged-sheet tabled-sheet judged answered bad-count bad-room sum tab any every P five
+unfolding number name-at name-start name name-byte is-name same cells cells-before mirrored table-with trailer leaves-of
+    offset-of cells-of right-ends sheet-ends-refusal right-sum sheet-length-refusal good-at repeated name-refusal
+    names-end-refusal names-refusal kept-sheet-refusal
+    sheet-refusal sheet-table-answer first-refusal answered count-refusal room-refusal sum-below tab any-in all-in P
+    five-sheet
 five-table = refl

@@ -1,4 +1,4 @@
 pub mod Examples
-pub mod Places
-pub mod Tabled
-pub mod Written
+pub mod CellPlaces
+pub mod SheetIsTable
+pub mod TableWritten

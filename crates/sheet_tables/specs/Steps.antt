@@ -4,13 +4,13 @@ use mathlib.Core.List.{List}
 use Prim.Native.Nat.{ℕ, _+_, _*_, _/_, _%_, _≤_}
 use lib.ListN.{length}
 use Rattle.base.specs.Lists.{filled}
-use Rattle.pairs.specs.Limits.{most-leaves}
+use Rattle.limits.specs.Limits.{most-leaves}
 use Rattle.sheets.specs.Sheets.{trailer-bytes, cell-bytes, cells}
 use Rattle.sheet_tables.specs.Operations.{mirrored}
 
 -- a sheet holds the cells of n leaves from the offset o to the trailer
-abbrev pub Holds : List ℕ → ℕ → ℕ → Type 0
-Holds S n o = (n ≤ most-leaves) × (o + cell-bytes n + trailer-bytes ≡ length S)
+abbrev pub HoldsCells : List ℕ → ℕ → ℕ → Type 0
+HoldsCells S n o = (n ≤ most-leaves) × (o + cell-bytes n + trailer-bytes ≡ length S)
 
 -- cell k of its table, counted row by row
 abbrev pub table-rule : List ℕ → ℕ → ℕ → ℕ → ℕ

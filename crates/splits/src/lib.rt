@@ -4,16 +4,16 @@ use refusals::Refusal;
 ghost use mathlib.Core.Path.{_≡_};
 ghost use lib.ListN.{length};
 ghost use Rattle.refusals.specs.Refusals.{outcome, written};
-ghost use Rattle.splits.specs.Operations.{split-listing};
+ghost use Rattle.splits.specs.Operations.{splits-answer};
 
 mod sets;
 mod writing;
 
 // Writes the splits of the tree that a listing stands for at the front of `out`, sixteen bytes each.
 pub fn splits(n: usize, listing: &[u16], out: &mut [u8]) -> Outcome
-    ensures answer { λ r. ⌜ r ≡ outcome (split-listing n (now (listing .entry)) (length (now (out .entry)))) ⌝ }
+    ensures answer { λ r. ⌜ r ≡ outcome (splits-answer n (now (listing .entry)) (length (now (out .entry)))) ⌝ }
     ensures buffer { λ r. ⌜ now (out .exit)
-        ≡ written (split-listing n (now (listing .entry)) (length (now (out .entry)))) (now (out .entry)) ⌝ }
+        ≡ written (splits-answer n (now (listing .entry)) (length (now (out .entry)))) (now (out .entry)) ⌝ }
 {
     if !listings::leaf_count(n) {
         return Outcome::Refused(Refusal::LeafCount);

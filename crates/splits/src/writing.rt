@@ -1,21 +1,21 @@
 // The sets of leaves under the nodes of a listing, written one after the other.
 use crate::sets::single;
 use crate::sets::union;
-use listings::wide;
+use listings::index_of_u16;
 ghost use mathlib.Core.Path.{_≡_};
 ghost use mathlib.Core.List.{_++_};
 ghost use Prim.Native.Nat.{ℕ, _+_, _-_, _*_, _≤_, _<_};
 ghost use lib.ListN.{length, take, drop};
-ghost use Rattle.pairs.specs.Limits.{LeafCount};
+ghost use Rattle.limits.specs.Limits.{IsLeafCount};
 ghost use Rattle.trees.specs.Trees.{leaf};
 ghost use Rattle.trees.specs.Listings.{KeepsRules};
 ghost use Rattle.trees.specs.Splits.{set-bytes};
-ghost use Rattle.splits.specs.Splits.{Holds, with-sets};
+ghost use Rattle.splits.specs.Splits.{HoldsSet, with-sets};
 
 // The set of each leaf below n.
 fn leaf_sets(n: usize) -> [[u8; 16]; 256]
-    requires { ⌜ LeafCount n ⌝ }
-    ensures { λ r. ⌜ (length r ≡ 256) × ((k : ℕ) → k < n → Holds r k (leaf k)) ⌝ }
+    requires { ⌜ IsLeafCount n ⌝ }
+    ensures { λ r. ⌜ (length r ≡ 256) × ((k : ℕ) → k < n → HoldsSet r k (leaf k)) ⌝ }
 {
     let mut sets = [[0u8; 16]; 256];
     let mut k = 0;
@@ -40,14 +40,14 @@ fn put_set(out: &mut [u8], at: usize, s: [u8; 16])
 
 // Writes the set of leaves under each node but the last of a listing, in node order. Cells beyond stay as they were.
 pub(crate) fn write_splits(n: usize, rows: &[u16], out: &mut [u8])
-    requires { ⌜ LeafCount n × KeepsRules n (now rows) × (set-bytes * (n - 3) ≤ length (now out)) ⌝ }
+    requires { ⌜ IsLeafCount n × KeepsRules n (now rows) × (set-bytes * (n - 3) ≤ length (now out)) ⌝ }
     ensures { λ r. ⌜ now (out .exit) ≡ with-sets n (now (rows .entry)) (now (out .entry)) ⌝ }
 {
     let mut sets = leaf_sets(n);
     let mut k = 0;
     while k < n - 3 {
-        let a = sets[wide(rows[2 * k])];
-        let b = sets[wide(rows[2 * k + 1])];
+        let a = sets[index_of_u16(rows[2 * k])];
+        let b = sets[index_of_u16(rows[2 * k + 1])];
         let s = union(a, b);
         sets[n + k] = s;
         put_set(out, 16 * k, s);

@@ -55,7 +55,7 @@ use Rattle.refusals.specs.Refusals.{outcome, written}
 use Rattle.refusals.proofs.Outcome as O
 use Rattle.refusals.proofs.Outcome.Laws as O′
 use Rattle.polls.specs.declared.Record.{Record}
-use Rattle.polls.specs.Operations.{polled}
+use Rattle.polls.specs.Operations.{poll-answer}
 use Rattle.polls.proofs.Record as T
 use Rattle.polls.proofs.Record.Laws as T′
 use Rattle.polls.proofs.poll as poll
@@ -162,10 +162,10 @@ module _ {M : Type 1} (𝓤 : URA M) (H : Heap 𝓤) (A : Atoms 𝓤) (W : Given
       move ! (2 ∷ 0 ∷ []) $ join ! $ move ! (1 ∷ 0 ∷ []) $ join ! $ join ! $ frame ! $ done !
 
   abbrev Answers : Outcome → Type 0
-  Answers x = x ≡ outcome (polled n (r ∷ []) (length os))
+  Answers x = x ≡ outcome (poll-answer n (r ∷ []) (length os))
 
   abbrev Written : List ℕ → Type 0
-  Written zs = zs ≡ written (polled n (r ∷ []) (length os)) os
+  Written zs = zs ≡ written (poll-answer n (r ∷ []) (length os)) os
 
   abbrev Last : Type 0
   Last = Unit {0} × (Unit {0} × (List ℕ × Unit {0}))

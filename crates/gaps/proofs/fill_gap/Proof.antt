@@ -3,7 +3,7 @@ use mathlib.Core.Path.{_∙_}
 use native.Mathlib.Omega.{arith}
 use borrow.Author.Needs.{needs}
 use lib.ListN.{replicate}
-use Rattle.pairs.proofs.Places.{square-small}
+use Rattle.limits.proofs.TablePlaces.{square-small}
 use Rattle.gaps.proofs.Gaps.{tree-there, gaps-made}
 use Rattle.gaps.proofs.fill_gap.Statement.{statement}
 use Rattle.gaps.proofs.fill_gap.Tie as tie

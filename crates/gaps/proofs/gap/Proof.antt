@@ -7,27 +7,27 @@ use native.Mathlib.Omega.{arith}
 use borrow.Author.Needs.{needs}
 use borrow.Author.Tests.{not-true, not-false}
 use lib.ListN.{length}
-use Rattle.pairs.specs.Limits.{LeafCount}
-use Rattle.pairs.proofs.Places.{square-small}
+use Rattle.limits.specs.Limits.{IsLeafCount}
+use Rattle.limits.proofs.TablePlaces.{square-small}
 use Rattle.refusals.specs.Refusals.{outcome-of}
 use Rattle.refusals.proofs.Answers.{outcome-answered, done-none, refused-some, written-refused}
-use Rattle.listings.specs.Operations.{judged-listing}
-use Rattle.listings.proofs.Judged.{counted, accepted-listing}
-use Rattle.gaps.specs.Operations.{gapped}
-use Rattle.gaps.proofs.Judging.{count-refused, cells-refused, listing-refused, table-decides}
-use Rattle.gaps.proofs.Judging.{gap-written}
+use Rattle.listings.specs.Operations.{listing-refusal}
+use Rattle.listings.proofs.ListingRefusal.{is-leaf-count, accepted-listing}
+use Rattle.gaps.specs.Operations.{gap-answer}
+use Rattle.gaps.proofs.GapAnswer.{count-refused, cells-refused, listing-refused, table-decides}
+use Rattle.gaps.proofs.GapAnswer.{gap-written}
 use Rattle.gaps.proofs.gap.Statement.{statement}
 use Rattle.gaps.proofs.gap.Tie as tie
 
 -- the leaf count passed its test
-count : (c : tie.Else1) → LeafCount (c .before .before .before .before .args .n)
-count c = counted _ (sym (c .before .leaf-count .ensures) ∙ not-false _ (c .if1 .left))
+count : (c : tie.Else1) → IsLeafCount (c .before .before .before .before .args .n)
+count c = is-leaf-count _ (sym (c .before .leaf-count .ensures) ∙ not-false _ (c .if1 .left))
 
 leaf-count-requires : tie.Need-leaf-count-requires
 leaf-count-requires c κs = search needs
 
 returns : tie.Need-returns
-unfolding gapped outcome-of
+unfolding gap-answer outcome-of
 returns c =
     let arises = count-refused _ _ _ _ (sym (c .before .leaf-count .ensures) ∙ not-true _ (c .if1 .taken)) in
     (ap outcome-of (sym arises) ∙ sym (outcome-answered _ _), sym (written-refused _ _ _ _ arises))
@@ -36,7 +36,7 @@ mul-if2 : tie.Need-mul-if2
 mul-if2 c = omega (arith, square-small _ (count c .1))
 
 returns-2 : tie.Need-returns-2
-unfolding gapped outcome-of
+unfolding gap-answer outcome-of
 returns-2 c =
     let arises = cells-refused _ _ _ _ (count (c .before)) (c .if2 .taken) in
     (ap outcome-of (sym arises) ∙ sym (outcome-answered _ _), sym (written-refused _ _ _ _ arises))
@@ -54,7 +54,7 @@ enum-told-2 : tie.Need-enum-told-2
 enum-told-2 c = search needs
 
 returns-3 : tie.Need-returns-3
-unfolding gapped outcome-of
+unfolding gap-answer outcome-of
 returns-3 c =
     let made = c .before .before in
     let found = refused-some _ _ (sym (made .judge .ensures) ∙ c .enum-told2 .given .1) in
@@ -66,10 +66,10 @@ returns-3 c =
 module _ (c : tie.After-enum-told) where
   listing-fine :
       let a = c .before .before .before .before .before .before .before .before .args in
-      judged-listing (a .n) (a .listing .now) (a .n * a .n) (length (a .out .now)) ≡ none
+      listing-refusal (a .n) (a .listing .now) (a .n * a .n) (length (a .out .now)) ≡ none
   listing-fine = done-none _ (sym (c .before .before .judge .ensures) ∙ c .enum-told .given .1)
 
-  few : LeafCount (c .before .before .before .before .before .before .before .before .args .n)
+  few : IsLeafCount (c .before .before .before .before .before .before .before .before .args .n)
   few = count (c .before .before .before .before)
 
   all-cells :
@@ -87,7 +87,7 @@ enum-told-4 : tie.Need-enum-told-4
 enum-told-4 c = search needs
 
 returns-4 : tie.Need-returns-4
-unfolding gapped outcome-of
+unfolding gap-answer outcome-of
 returns-4 c =
     let made = c .before .before in
     let before = made .before in
@@ -106,7 +106,7 @@ same-length : tie.Need-same-length
 same-length c = search needs
 
 returns-5 : tie.Need-returns-5
-unfolding gapped outcome-of
+unfolding gap-answer outcome-of
 returns-5 c =
     let put = c .before in
     let done = put .before .before in

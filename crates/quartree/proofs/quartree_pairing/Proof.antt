@@ -3,18 +3,19 @@ use native.Mathlib.Omega.{arith}
 use mathlib.Core.Path.{refl, ap, sym, _∙_}
 use borrow.Author.Needs.{needs}
 use borrow.Author.Tests.{not-true, not-false}
-use Rattle.pairs.specs.Limits.{LeafCount}
-use Rattle.listings.proofs.Judged.{counted}
-use Rattle.pairings.specs.Operations.{pairing-asked}
+use Rattle.limits.specs.Limits.{IsLeafCount}
+use Rattle.listings.proofs.ListingRefusal.{is-leaf-count}
+use Rattle.pairings.specs.Operations.{pairing-answer}
 use Rattle.quartree.specs.Replies.{number-reply}
 use Rattle.quartree.specs.Steps.{paired-reply}
-use Rattle.quartree.proofs.Questions.{four, paired-replied, pairing-small, count-refused, length-refused, asked}
+use Rattle.quartree.proofs.Questions.{is-four, paired-replied, pairing-small, count-refused, length-refused}
+use Rattle.quartree.proofs.Questions.{asked}
 use Rattle.quartree.proofs.quartree_pairing.Statement.{statement}
 use Rattle.quartree.proofs.quartree_pairing.Tie as tie
 
 -- the leaf count passed its test
-count : (c : tie.Else1) → LeafCount (c .before .before .before .before .args .n)
-count c = counted _ (sym (c .before .leaf-count .ensures) ∙ not-false _ (c .if1 .left))
+count : (c : tie.Else1) → IsLeafCount (c .before .before .before .before .args .n)
+count c = is-leaf-count _ (sym (c .before .leaf-count .ensures) ∙ not-false _ (c .if1 .left))
 
 leaf-count-requires : tie.Need-leaf-count-requires
 leaf-count-requires c κs = search needs
@@ -48,7 +49,7 @@ returns-3 c =
     let sized = c .before .before .before .before .before .before in
     let a = sized .before .before .before .before .before .args in
     let q = a .question .now in
-    let lent = ap (pairing-asked (a .n) (a .listing .now)) (sym (four q (sized .if2 .left))) in
+    let lent = ap (pairing-answer (a .n) (a .listing .now)) (sym (is-four q (sized .if2 .left))) in
     let due = asked (a .n) (a .listing .now) q (count (sized .before)) (sized .if2 .left) in
     c .paired-reply .ensures
     ∙ ap paired-reply (c .before .pairing .ensures)

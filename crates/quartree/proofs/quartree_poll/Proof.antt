@@ -45,7 +45,7 @@ use Rattle.refusals.specs.Refusals.{outcome, written}
 use Rattle.refusals.proofs.Outcome as O
 use Rattle.refusals.proofs.Outcome.Laws as O′
 use Rattle.polls.specs.declared.Record.{Record}
-use Rattle.polls.specs.Operations.{polled}
+use Rattle.polls.specs.Operations.{poll-answer}
 use Rattle.polls.proofs.Walking.{word, records, Typed, typed-outcome}
 use Rattle.polls.proofs.Record as T
 use Rattle.polls.proofs.poll as poll
@@ -132,10 +132,10 @@ module _ {M : Type 1} (𝓤 : URA M) (H : Heap 𝓤) (A : Atoms 𝓤) (W : Given
 
   -- what the contract says of the reply and of the buffer
   abbrev Answers : ℕ → Type 0
-  Answers z = z ≡ reply (polled n ys (length os))
+  Answers z = z ≡ reply (poll-answer n ys (length os))
 
   abbrev Holds : List ℕ → Type 0
-  Holds zs = zs ≡ written (polled n ys (length os)) os
+  Holds zs = zs ≡ written (poll-answer n ys (length os)) os
 
   exits :
       (z : ℕ) (w : Val) (zs : List ℕ) → Answers z → Holds zs → length zs ≡ length os
@@ -174,7 +174,7 @@ module _ {M : Type 1} (𝓤 : URA M) (H : Heap 𝓤) (A : Atoms 𝓤) (W : Given
       move ! (2 ∷ 0 ∷ []) $ join ! $ move ! (1 ∷ 0 ∷ []) $ join ! $ join ! $ frame ! $ done !
 
   abbrev Polled : Outcome → Type 0
-  Polled x = x ≡ outcome (polled n ys (length os))
+  Polled x = x ≡ outcome (poll-answer n ys (length os))
 
   abbrev Last : Type 0
   Last = Unit {0} × (Unit {0} × (List ℕ × Unit {0}))

@@ -2,7 +2,7 @@
 -- is that one's.
 use mathlib.Core.Path.{ap, _∙_}
 use borrow.Author.Needs.{needs}
-use Rattle.strains.specs.Operations.{outcome-number}
+use Rattle.sheet_trees.specs.Operations.{outcome-number}
 use Rattle.quartree.proofs.Figures.{said-alone}
 use Rattle.quartree.proofs.quartree_rebuild_sheet.Statement.{statement}
 use Rattle.quartree.proofs.quartree_rebuild_sheet.Tie as tie

@@ -1,7 +1,7 @@
 -- `rebuild::main` meets its contract: the input is lent as long as it was read, and rows are printed of a tree alone.
 use mathlib.Core.Path.{sym, _∙_}
 use borrow.Author.Needs.{needs}
-use Rattle.strains.proofs.Listed.{done-count}
+use Rattle.sheet_trees.proofs.Listed.{done-count}
 use Rattle.rebuild.proofs.main.Statement.{statement}
 use Rattle.rebuild.proofs.main.Tie as tie
 

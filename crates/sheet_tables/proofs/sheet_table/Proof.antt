@@ -8,10 +8,10 @@ use native.Mathlib.Omega.{arith}
 use borrow.Author.Needs.{needs}
 use lib.ListN.{length}
 use Rattle.refusals.proofs.Answers.{outcome-answered, done-none, refused-some, written-refused}
-use Rattle.sheets.specs.Operations.{judged-sheet}
-use Rattle.sheets.proofs.Judged.{accepted-sheet}
-use Rattle.sheet_tables.specs.Operations.{tabled-sheet}
-use Rattle.sheet_tables.proofs.Written.{table-written}
+use Rattle.sheets.specs.Operations.{sheet-refusal}
+use Rattle.sheets.proofs.SheetRefusal.{accepted-sheet}
+use Rattle.sheet_tables.specs.Operations.{sheet-table-answer}
+use Rattle.sheet_tables.proofs.TableWritten.{sheet-table-written}
 use Rattle.sheet_tables.proofs.sheet_table.Statement.{statement}
 use Rattle.sheet_tables.proofs.sheet_table.Tie as tie
 
@@ -33,7 +33,7 @@ enum-told-2 : tie.Need-enum-told-2
 enum-told-2 c = search needs
 
 returns : tie.Need-returns
-unfolding tabled-sheet
+unfolding sheet-table-answer
 returns c =
     let judge = c .before .before in
     let judged = rw (judge .before .leaf-count-of .ensures .0) at (judge .judge-sheet .ensures) in
@@ -45,14 +45,14 @@ none-arises :
     (c : tie.After-enum-told)
     → (let a = c .before .before .before .before .before .before .args in
     let n = c .before .before .before .leaf-count-of .result in
-    judged-sheet (a .sheet .now) (n * n) (length (a .out .now)) ≡ none)
+    sheet-refusal (a .sheet .now) (n * n) (length (a .out .now)) ≡ none)
 none-arises c = done-none _ (sym (c .before .before .judge-sheet .ensures) ∙ c .enum-told .given .1)
 
 offset-of-requires : tie.Need-offset-of-requires
 offset-of-requires c κs = search needs
 
 write-table-requires : tie.Need-write-table-requires
-unfolding judged-sheet
+unfolding sheet-refusal
 write-table-requires c κs =
     let done = c .before .before in
     let a = accepted-sheet _ _ _ _ _ (none-arises done) in
@@ -63,14 +63,14 @@ same-length : tie.Need-same-length
 same-length c = search needs
 
 returns-2 : tie.Need-returns-2
-unfolding tabled-sheet
+unfolding sheet-table-answer
 returns-2 c =
     let put = c .before .before in
     let offset-is = put .before .before .offset-of .ensures in
     let done = put .before .before .before in
     let n-is = done .before .before .before .leaf-count-of .ensures .0 in (
       (rw n-is at (done .before .before .judge-sheet .ensures)) ∙ sym (outcome-answered _ _),
-      put .write-table .ensures ∙ sym (table-written _ _ n-is offset-is (none-arises done)),
+      put .write-table .ensures ∙ sym (sheet-table-written _ _ n-is offset-is (none-arises done)),
     )
 
 pub sheet-table-spec : {M : Type 1} → statement M

@@ -5,9 +5,9 @@ use native.Mathlib.Omega.{arith}
 use borrow.Author.Needs.{needs}
 use lib.ListN.{length}
 use Rattle.sheets.specs.Sheets.{trailer-bytes}
-use Rattle.sheets.proofs.Bytes.{number-two}
+use Rattle.sheets.proofs.ByteNumbers.{number-two}
 use Rattle.sheets.proofs.Cells.{two-bytes-each, cell-at}
-use Rattle.sheet_tables.proofs.Places.{place-below}
+use Rattle.sheet_tables.proofs.CellPlaces.{place-below}
 use Rattle.sheet_tables.proofs.table.cell_above.Statement.{statement}
 use Rattle.sheet_tables.proofs.table.cell_above.Tie as tie
 
@@ -29,20 +29,20 @@ mul-at c = omega (arith, ends c)
 add-at : tie.Need-add-at
 add-at c = omega (arith, ends c)
 
-shared-slice-read-wide : tie.Need-shared-slice-read-wide
-shared-slice-read-wide c = omega (arith, ends (c .before))
+shared-slice-read-index-of-u8 : tie.Need-shared-slice-read-index-of-u8
+shared-slice-read-index-of-u8 c = omega (arith, ends (c .before))
 
-wide-requires : tie.Need-wide-requires
-wide-requires c κs = search needs
+index-of-u8-requires : tie.Need-index-of-u8-requires
+index-of-u8-requires c κs = search needs
 
-add-wide : tie.Need-add-wide
-add-wide c = omega (arith, ends (c .before .before))
+add-index-of-u8 : tie.Need-add-index-of-u8
+add-index-of-u8 c = omega (arith, ends (c .before .before))
 
-shared-slice-read-wide-2 : tie.Need-shared-slice-read-wide-2
-shared-slice-read-wide-2 c = omega (arith, ends (c .before .before .before))
+shared-slice-read-index-of-u8-2 : tie.Need-shared-slice-read-index-of-u8-2
+shared-slice-read-index-of-u8-2 c = omega (arith, ends (c .before .before .before))
 
-wide-requires-2 : tie.Need-wide-requires-2
-wide-requires-2 c κs = search needs
+index-of-u8-requires-2 : tie.Need-index-of-u8-requires-2
+index-of-u8-requires-2 c κs = search needs
 
 mul-result : tie.Need-mul-result
 mul-result c = search needs
@@ -71,11 +71,11 @@ cell-above-spec =
     cells-before-requires
     mul-at
     add-at
-    shared-slice-read-wide
-    wide-requires
-    add-wide
-    shared-slice-read-wide-2
-    wide-requires-2
+    shared-slice-read-index-of-u8
+    index-of-u8-requires
+    add-index-of-u8
+    shared-slice-read-index-of-u8-2
+    index-of-u8-requires-2
     mul-result
     add-result
     cast-result

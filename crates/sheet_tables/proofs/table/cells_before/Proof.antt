@@ -2,7 +2,7 @@
 use mathlib.Core.Path.{sym}
 use native.Mathlib.Omega.{arith}
 use borrow.Author.Needs.{needs}
-use Rattle.sheet_tables.proofs.Places.{place-is, row-small, half-below}
+use Rattle.sheet_tables.proofs.CellPlaces.{place-is, row-small, half-below}
 use Rattle.sheet_tables.proofs.table.cells_before.Statement.{statement}
 use Rattle.sheet_tables.proofs.table.cells_before.Tie as tie
 

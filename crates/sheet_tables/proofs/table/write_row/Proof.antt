@@ -12,7 +12,7 @@ use Rattle.base.proofs.Filling.{filled-more}
 use Rattle.sheets.specs.Sheets.{cells}
 use Rattle.sheet_tables.specs.Operations.{mirrored}
 use Rattle.sheet_tables.specs.Steps.{table-rule}
-use Rattle.sheet_tables.proofs.Places.{row-small}
+use Rattle.sheet_tables.proofs.CellPlaces.{row-small}
 use Rattle.sheet_tables.proofs.table.write_row.Statement.{statement}
 use Rattle.sheet_tables.proofs.table.write_row.Tie as tie
 

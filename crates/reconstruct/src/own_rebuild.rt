@@ -1,0 +1,223 @@
+// Our own rebuild: which pairs are merged, in which order, and the rows of the listing that this makes.
+use crate::eligible::as_expected;
+use crate::eligible::pair_fits;
+use crate::labels::MOST;
+use crate::labels::index_of_u32;
+use crate::labels::label_leaves;
+use crate::labels::merge;
+use refusals::Outcome;
+use refusals::Refusal;
+ghost use mathlib.Core.Path.{_≡_};
+ghost use mathlib.Core.Logic.{_↔_};
+ghost use mathlib.Core.Bool.{true};
+ghost use Prim.Native.Nat.{_+_, _-_, _*_, _<_, _≤_};
+ghost use lib.ListN.{length, getD, set};
+ghost use Rattle.base.specs.Lists.{filled};
+ghost use Rattle.limits.specs.Limits.{most-leaves, IsLeafCount};
+ghost use Rattle.refusals.specs.Refusals.{outcome, written};
+ghost use Rattle.trees.specs.Tables.{IsTable};
+ghost use Rattle.merging.specs.Rebuilds.{rebuilt};
+ghost use Rattle.reconstruct.specs.Fits.{Given, SizesFit, Joins, Partner};
+ghost use Rattle.reconstruct.specs.StateArrays.{LeavesMerged, AllMerged, Fresh, OneSubtreeFits};
+
+// Whether `b` labels a subtree that may be merged with the subtree `a`.
+fn joins(
+    n: usize,
+    table: &[u32],
+    label: &[u32; MOST],
+    m: &[u32; MOST],
+    sizes: &[usize; MOST],
+    p: &[u32; MOST + 1],
+    a: usize,
+    b: usize,
+) -> bool
+    requires { ⌜ SizesFit n (now table) (now label) (now m) (now sizes) (now p)
+        × (getD (now label) a 0 ≡ a) × (a < b) × (b < n) ⌝ }
+    ensures { λ r. ⌜ (r ≡ true)
+        ↔ Joins n (now (table .entry)) (now (label .entry)) (now (m .entry)) (now (sizes .entry)) a b ⌝ }
+{
+    if index_of_u32(label[b]) != b {
+        return false;
+    }
+    pair_fits(n, table, label, m, sizes, p, a, b)
+}
+
+// The first label after `a` whose subtree may be merged with the subtree `a`, or n.
+fn partner(
+    n: usize,
+    table: &[u32],
+    label: &[u32; MOST],
+    m: &[u32; MOST],
+    sizes: &[usize; MOST],
+    p: &[u32; MOST + 1],
+    a: usize,
+) -> usize
+    requires { ⌜ SizesFit n (now table) (now label) (now m) (now sizes) (now p) × (getD (now label) a 0 ≡ a)
+        × (a < n) ⌝ }
+    ensures { λ r. ⌜ Partner n (now (table .entry)) (now (label .entry)) (now (m .entry)) (now (sizes .entry)) a r ⌝ }
+{
+    let mut b: usize = a + 1;
+    while b < n {
+        if joins(n, table, label, m, sizes, p, a, b) {
+            return b;
+        }
+        b += 1;
+    }
+    n
+}
+
+// Each leaf by itself: its own number.
+fn name_leaves(n: usize, names: &mut [u16; MOST])
+    requires { ⌜ (n ≤ most-leaves) × (length (now names) ≡ most-leaves) ⌝ }
+    ensures { λ _. ⌜ now (names .exit) ≡ filled n (λ k. k) (now (names .entry)) ⌝ }
+{
+    let mut i: usize = 0;
+    while i < n {
+        names[i] = i as u16;
+        i += 1;
+    }
+}
+
+// Row r, of node n + r: its children are the subtrees `a` and `b`, and the node is now the number of `a`.
+fn add_row(
+    n: usize,
+    names: &mut [u16; MOST],
+    rows: &mut [u16; 2 * MOST],
+    a: usize,
+    b: usize,
+    r: usize,
+)
+    requires { ⌜ (n ≤ most-leaves) × (a < n) × (b < n) × (r < most-leaves) ⌝ }
+    ensures { λ _. ⌜ (now (names .exit) ≡ set (now (names .entry)) a (n + r))
+        × (now (rows .exit)
+        ≡ set (set (now (rows .entry)) (2 * r) (getD (now (names .entry)) a 0))
+        (2 * r + 1) (getD (now (names .entry)) b 0)) ⌝ }
+{
+    rows[2 * r] = names[a];
+    rows[2 * r + 1] = names[b];
+    names[a] = (n + r) as u16;
+}
+
+// The subtree of leaf t is merged with one after the other of those kept, until none is left that may be. The number of
+// rows afterwards.
+fn merge_leaf(
+    n: usize,
+    table: &[u32],
+    label: &mut [u32; MOST],
+    m: &mut [u32; MOST],
+    sizes: &mut [usize; MOST],
+    names: &mut [u16; MOST],
+    rows: &mut [u16; 2 * MOST],
+    p: &[u32; MOST + 1],
+    t: usize,
+    made: usize,
+) -> usize
+    requires { ⌜ Given n (now table) (now p) × (0 < t) × (t < n)
+        × LeavesMerged n (now table) (now label) (now m) (now sizes) (now names) (now rows) made (t + 1) ⌝ }
+    ensures { λ r. ⌜ LeavesMerged n (now (table .entry)) (now (label .exit)) (now (m .exit)) (now (sizes .exit))
+        (now (names .exit)) (now (rows .exit)) r t ⌝ }
+{
+    let mut r: usize = made;
+    let mut k: usize = partner(n, table, label, m, sizes, p, t);
+    while k < n {
+        merge(n, label, m, sizes, p, t, k);
+        add_row(n, names, rows, t, k, r);
+        r += 1;
+        k = partner(n, table, label, m, sizes, p, t);
+    }
+    r
+}
+
+// Every leaf from n - 1 down to 1 climbs.
+fn merge_leaves(
+    n: usize,
+    table: &[u32],
+    label: &mut [u32; MOST],
+    m: &mut [u32; MOST],
+    sizes: &mut [usize; MOST],
+    names: &mut [u16; MOST],
+    rows: &mut [u16; 2 * MOST],
+    p: &[u32; MOST + 1],
+)
+    requires { ⌜ Given n (now table) (now p)
+        × LeavesMerged n (now table) (now label) (now m) (now sizes) (now names) (now rows) 0 n ⌝ }
+    ensures { λ _. ⌜ AllMerged n (now (table .entry)) (now (label .exit)) (now (m .exit)) (now (sizes .exit))
+        (now (names .exit)) (now (rows .exit)) ⌝ }
+{
+    let mut r: usize = 0;
+    let mut t: usize = n;
+    while 1 < t {
+        t -= 1;
+        r = merge_leaf(n, table, label, m, sizes, names, rows, p, t, r);
+    }
+}
+
+// All merges that leave leaf 0 alone, until no such pair is eligible, with a row for each.
+fn build(
+    n: usize,
+    table: &[u32],
+    label: &mut [u32; MOST],
+    m: &mut [u32; MOST],
+    sizes: &mut [usize; MOST],
+    names: &mut [u16; MOST],
+    rows: &mut [u16; 2 * MOST],
+)
+    requires { ⌜ IsLeafCount n × IsTable n (now table)
+        × Fresh (now label) (now m) (now sizes) (now names) (now rows) ⌝ }
+    ensures { λ _. ⌜ AllMerged n (now (table .entry)) (now (label .exit)) (now (m .exit)) (now (sizes .exit))
+        (now (names .exit)) (now (rows .exit)) ⌝ }
+{
+    let p = pair_counts::pair_counts();
+    label_leaves(n, label);
+    name_leaves(n, names);
+    merge_leaves(n, table, label, m, sizes, names, rows, &p);
+}
+
+// Whether one subtree holds all leaves from 1 on, and leaf 0 may be merged with it.
+fn one_subtree_fits(n: usize, table: &[u32], label: &[u32; MOST], m: &[u32; MOST]) -> bool
+    requires { ⌜ (n ≤ most-leaves) × (length (now table) ≡ n * n) ⌝ }
+    ensures { λ r. ⌜ (r ≡ true) ↔ OneSubtreeFits n (now (table .entry)) (now (label .entry)) (now (m .entry)) ⌝ }
+{
+    let mut k: usize = 1;
+    while k < n {
+        if label[k] != 1 {
+            return false;
+        }
+        let cell = table[k];
+        let expected = m[k];
+        if !as_expected(cell, expected) {
+            return false;
+        }
+        k += 1;
+    }
+    true
+}
+
+// Our own rebuild of a table that has passed the checks placed before 6: the standard listing of the tree that has the
+// table, at the front of `out`; or 6, with `out` as it was.
+pub(crate) fn rebuild_checked(n: usize, table: &[u32], out: &mut [u16]) -> Outcome
+    requires { ⌜ IsLeafCount n × IsTable n (now table) × (2 * (n - 2) ≤ length (now out)) ⌝ }
+    ensures answer { λ r. ⌜ r ≡ outcome (rebuilt n 1 (now (table .entry))) ⌝ }
+    ensures buffer { λ _. ⌜ now (out .exit) ≡ written (rebuilt n 1 (now (table .entry))) (now (out .entry)) ⌝ }
+{
+    let mut label: [u32; MOST] = [0; MOST];
+    let mut m: [u32; MOST] = [0; MOST];
+    let mut sizes: [usize; MOST] = [1; MOST];
+    let mut names: [u16; MOST] = [0; MOST];
+    let mut rows: [u16; 2 * MOST] = [0; 2 * MOST];
+    build(
+        n,
+        table,
+        &mut label,
+        &mut m,
+        &mut sizes,
+        &mut names,
+        &mut rows,
+    );
+    if !one_subtree_fits(n, table, &label, &m) {
+        return Outcome::Refused(Refusal::NoTree);
+    }
+    let end = 2 * (n - 2);
+    listings::standardise(n, &rows[..end], out);
+    Outcome::Done
+}

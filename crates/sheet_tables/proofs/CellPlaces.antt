@@ -1,0 +1,48 @@
+-- Where cell (i, j) stands among those above the diagonal, by a product, and that this is below P(n); and that the
+-- products are small.
+use mathlib.Core.Path.{_≡_}
+use Prim.Native.Nat.{ℕ, zero, suc, _+_, _-_, _*_, _/_, _≤_, _<_}
+use native.Mathlib.Nat.{mul-le-mul, mul-le-mul-left}
+use native.Mathlib.Omega.{arith}
+use Rattle.base.specs.Numbers.{sum-below}
+use Rattle.limits.specs.Limits.{most-leaves}
+use Rattle.pair_counts.specs.Pairs.{P}
+use Rattle.pair_counts.proofs.Pairs.{P-suc}
+use Rattle.sheet_tables.specs.Operations.{cells-before}
+
+-- the cells of the rows before row i, by a product
+abbrev rows : ℕ → ℕ → ℕ
+rows n i = sum-below i (λ r. n - (r + 1))
+
+rows-twice : (n i : ℕ) → i ≤ n → 2 * rows n i + i * (i + 1) ≡ 2 * (i * n)
+unfolding sum-below
+rows-twice n zero h = omega arith
+rows-twice n (suc i) h = omega (arith, rows-twice n i (omega arith))
+
+-- row i and those after it hold the others
+rows-rest : (n i : ℕ) → i ≤ n → rows n i + P (n - i) ≡ P n
+unfolding sum-below
+rows-rest n zero h = let e : n - 0 ≡ n = omega arith in rw e (omega arith)
+rows-rest n (suc i) h =
+    let e : n - i ≡ suc (n - suc i) = omega arith in
+    omega (arith, rw (e, P-suc (n - suc i)) at (rows-rest n i (omega arith)))
+
+-- the place of cell (i, j), as code computes it, is below P(n)
+module _ (n i j : ℕ) (h : i < j) (l : j < n) where
+  pub place-is : cells-before n i j ≡ i * n - i * (i + 1) / 2 + (j - i - 1)
+  unfolding cells-before
+  place-is = omega (arith, rows-twice n i (omega arith))
+
+  pub place-below : cells-before n i j < P n
+  unfolding cells-before
+  place-below =
+      let e : n - i ≡ suc (n - suc i) = omega arith in
+      omega (arith, rw (e, P-suc (n - suc i)) at (rows-rest n i (omega arith)))
+
+-- its products, for a leaf count of at most 128
+module _ (n i : ℕ) (few : n ≤ most-leaves) (h : i < n) where
+  pub row-small : i * n ≤ most-leaves * most-leaves
+  row-small = let l : i ≤ most-leaves = omega arith in mul-le-mul l few
+
+  pub half-below : i * (i + 1) ≤ i * n
+  half-below = let l : i + 1 ≤ n = omega arith in mul-le-mul-left i l

@@ -1,0 +1,44 @@
+-- The answers of the operations, from what was judged before them.
+use mathlib.Core.Path.{_≡_, refl, sym, _∙_}
+use mathlib.Core.Logic.{inl, inr}
+use mathlib.Core.Bool.{false, _&&_}
+use mathlib.Core.List.{List}
+use mathlib.Core.Option.{Option, none, some}
+use Prim.Native.Nat.{ℕ, _-_, _*_}
+use native.Mathlib.Omega.{arith}
+use lib.Dec.{leb}
+use Rattle.base.proofs.Bools.{bool?}
+use Rattle.limits.specs.Limits.{most-leaves, IsLeafCount}
+use Rattle.refusals.specs.declared.Refusal.{Refusal}
+use Rattle.refusals.specs.declared.Outcome.the-variants.{Done}
+use Rattle.refusals.specs.Refusals.{Answer, unless, outcome}
+use Rattle.sheets.specs.Sheets.{leaves-of, offset-of}
+use Rattle.sheets.specs.Operations.{right-ends, sheet-refusal}
+use Rattle.sheets.proofs.SheetRefusal.{ends-refused, count-refused}
+use Rattle.sheet_trees.specs.Operations.{sheet-tree, sheet-listing-answer}
+use Rattle.sheet_trees.proofs.Tabled.{accepted-here}
+
+-- a leaf count that is refused: 13 or 1 arises, whatever the room
+pub count-decides :
+    (S : List ℕ) (due room : ℕ) → (leb 3 (leaves-of S) && leb (leaves-of S) most-leaves) ≡ false
+    → sheet-refusal S 0 0 ≡ sheet-refusal S due room
+unfolding sheet-refusal
+count-decides S due room h =
+    let n = leaves-of S in
+    let o = offset-of S in
+    elim (bool? (right-ends S)) [
+      | inl t ↦ count-refused S n o 0 0 t h ∙ sym (count-refused S n o due room t h)
+      | inr f ↦ ends-refused S n o 0 0 f ∙ sym (ends-refused S n o due room f)
+    ]
+
+-- done: then nothing was refused before, and the leaf count is right
+unless-done : {A : Type 0} (o : Option Refusal) (a : Answer A) → outcome (unless o a) ≡ Done → o ≡ none
+unfolding unless outcome
+unless-done none a h = refl
+unless-done (some r) a h = absurd (let z : _≡_ {A = ℕ} 0 1 = cc in omega arith)
+
+pub done-count : (S : List ℕ) (room : ℕ) → outcome (sheet-listing-answer S room) ≡ Done → IsLeafCount (leaves-of S)
+unfolding sheet-listing-answer
+done-count S room h =
+    let due = 2 * (leaves-of S - 2) in
+    accepted-here S due room (unless-done (sheet-refusal S due room) (sheet-tree S) h) .count

@@ -1,0 +1,87 @@
+-- The table of a sheet on its way to our own rebuild: a sheet accepted with one room is accepted with any other that is
+-- enough, its table stands at the front of the cells lent for it, and our own rebuild refuses it with 6 alone.
+use mathlib.Core.Path.{_≡_, _∙_}
+use mathlib.Core.Option.{Option, none}
+use mathlib.Core.List.{List, _∷_}
+use Prim.Native.Nat.{ℕ, _-_, _*_, _/_, _%_, _≤_}
+use native.Mathlib.Nat.{mul-le-mul}
+use lib.ListN.{length, take}
+use lib.Seq.{take-at}
+use Rattle.base.proofs.Lists.{length-tab}
+use Rattle.limits.specs.Limits.{most-leaves, IsLeafCount}
+use Rattle.refusals.specs.declared.Refusal.{Refusal}
+use Rattle.refusals.specs.Refusals.{first-refusal, written}
+use Rattle.refusals.proofs.Answers.{judged-on, judged-none, unless-passed, written-done}
+use Rattle.trees.specs.Tables.{IsTable, cells-refusal}
+use Rattle.listings.specs.Sizes.{count-refusal, room-refusal}
+use Rattle.listings.proofs.ListingRefusal.{room-passes}
+use Rattle.table_checks.specs.Operations.{table-refusal}
+use Rattle.table_checks.proofs.TableRefusal.{cells-left}
+use Rattle.reconstruct.specs.Operations.{rebuild-answer}
+use Rattle.sheets.specs.Sheets.{leaves-of, offset-of, cells-of}
+use Rattle.sheets.specs.Operations.{sheet-ends-refusal, sheet-length-refusal, kept-sheet-refusal, sheet-refusal}
+use Rattle.sheets.proofs.SheetRefusal.{Accepted, accepted-sheet}
+use Rattle.sheet_tables.specs.Operations.{mirrored, table-with, sheet-table-answer}
+use Rattle.sheet_tables.proofs.SheetIsTable.{sheet-is-table}
+use Rattle.sheet_trees.specs.Operations.{sheet-tree}
+
+-- the cells of a table, and the most
+pub table-long : (n : ℕ) (c : List ℕ) → length (table-with n c) ≡ n * n
+unfolding table-with
+table-long n c = length-tab (n * n) (λ k. mirrored n c (k / n) (k % n))
+
+few-cells : (n : ℕ) → IsLeafCount n → n * n ≤ most-leaves * most-leaves
+few-cells n c = mul-le-mul (c .1) (c .1)
+
+-- a table with a zero diagonal and equal halves passes the checks placed before 6
+wrong-none : (n : ℕ) (t : List ℕ) → IsTable n t → cells-refusal n t ≡ none
+unfolding cells-refusal
+wrong-none n t h = rw (h .zero-diagonal, h .equal-halves, cells-refusal)
+
+table-passes :
+    (n : ℕ) (t : List ℕ) (due room : ℕ) → IsLeafCount n → IsTable n t → due ≤ room → table-refusal n t due room ≡ none
+table-passes n t due room c h l = cells-left n t due room c (h .cells) l ∙ wrong-none n t h
+
+-- a refusal that does not arise is passed
+passed : (o : Option Refusal) (l : List (Option Refusal)) → o ≡ none → first-refusal (o ∷ l) ≡ first-refusal l
+passed o l h = rw h (judged-on l)
+
+-- An accepted sheet.
+module _ (S : List ℕ) (due room : ℕ) (h : sheet-refusal S due room ≡ none) where
+  pub accepted-here : Accepted S (leaves-of S) (offset-of S) due room
+  unfolding sheet-refusal
+  accepted-here = accepted-sheet S (leaves-of S) (offset-of S) due room h
+
+  -- it is accepted with any other room that is enough
+  pub other-room : (d r : ℕ) → d ≤ r → sheet-refusal S d r ≡ none
+  unfolding sheet-refusal kept-sheet-refusal
+  other-room d r enough =
+      let a = judged-none (sheet-ends-refusal S) _ h in
+      let b = judged-none (count-refusal (leaves-of S)) _ (a .1) in
+      let c = judged-none (sheet-length-refusal S (leaves-of S) (offset-of S)) _ (b .1) in
+      passed _ _ (a .0)
+      ∙ passed _ _ (b .0)
+      ∙ passed _ _ (c .0)
+      ∙ room-passes _ d r enough
+      ∙ judged-none (room-refusal due room) _ (c .1) .1
+
+  -- its table stands at the front of the cells lent for it
+  pub cells-lent :
+      (out : List ℕ) → length out ≡ most-leaves * most-leaves
+      → take (leaves-of S * leaves-of S) (written (sheet-table-answer S (length out)) out)
+      ≡ table-with (leaves-of S) (cells-of S)
+  unfolding sheet-table-answer
+  cells-lent out e =
+      let n = leaves-of S in
+      let fine = other-room (n * n) (length out) (rw e (few-cells n (accepted-here .count))) in
+      rw (written-done _ _ out fine) (take-at (table-with n (cells-of S)) _ (n * n) (table-long n (cells-of S)))
+
+-- our own rebuild of it
+pub rebuilt-alone :
+    (S : List ℕ) (room : ℕ) → sheet-refusal S (2 * (leaves-of S - 2)) room ≡ none
+    → rebuild-answer (leaves-of S) (table-with (leaves-of S) (cells-of S)) room ≡ sheet-tree S
+unfolding rebuild-answer sheet-tree
+rebuilt-alone S room h =
+    let n = leaves-of S in
+    let a = accepted-here S (2 * (n - 2)) room h in
+    unless-passed _ _ (table-passes n _ _ room (a .count) (sheet-is-table n (cells-of S)) (a .room-enough))

@@ -1,0 +1,42 @@
+// The numbers of a listing as bytes, low byte first.
+ghost use mathlib.Core.Path.{_≡_};
+ghost use Prim.Native.Nat.{_/_, _%_, _<_, _≤_};
+ghost use lib.ListN.{length};
+ghost use Rattle.base.specs.Lists.{filled};
+ghost use Rattle.sheet_trees.specs.Steps.{byte-rule};
+
+fn low_byte(v: u16) -> u8
+    ensures { λ r. ⌜ r ≡ v % 256 ⌝ }
+{
+    (v % 256) as u8
+}
+
+fn high_byte(v: u16) -> u8
+    ensures { λ r. ⌜ r ≡ v / 256 % 256 ⌝ }
+{
+    (v / 256) as u8
+}
+
+// Byte k of the numbers.
+fn byte_at(numbers: &[u16; 252], k: usize) -> u8
+    requires { ⌜ k < 504 ⌝ }
+    ensures { λ r. ⌜ r ≡ byte-rule (now (numbers .entry)) k ⌝ }
+{
+    let v = numbers[k / 2];
+    if k % 2 == 0 {
+        return low_byte(v);
+    }
+    high_byte(v)
+}
+
+// Writes so many bytes of the numbers at the front of `out`.
+pub(crate) fn write_bytes(many: usize, numbers: &[u16; 252], out: &mut [u8])
+    requires { ⌜ (many ≤ 504) × (many ≤ length (now out)) ⌝ }
+    ensures { λ _. ⌜ now (out .exit) ≡ filled many (byte-rule (now (numbers .entry))) (now (out .entry)) ⌝ }
+{
+    let mut k: usize = 0;
+    while k < many {
+        out[k] = byte_at(numbers, k);
+        k += 1;
+    }
+}

@@ -1,0 +1,107 @@
+-- The searches of the checks 4 and 5, step by step: what is found from a place on is what stands there, or what is
+-- found from the next place on. So a loop that keeps "found from here is found from the start" ends with the answer.
+use mathlib.Core.Path.{_≡_, refl, ap, _∙_}
+use mathlib.Core.Logic.{_≢_}
+use mathlib.Core.Bool.{Bool, true, false, not, _&&_}
+use mathlib.Core.List.{List, _∷_}
+use mathlib.Core.Option.{Option, none, some}
+use Prim.Native.Nat.{ℕ, zero, suc, _+_, _*_, _/_, _%_, _≤_, _<_}
+use native.Mathlib.Nat.{add-zero}
+use native.Mathlib.Numerals.{add-one}
+use native.Mathlib.Omega.{arith}
+use borrow.Author.Tests.{eq-eqb, ne-eqb, lt-ltb, le-ltb}
+use lib.Dec.{ltb, eqb}
+use lib.ListN.{drop, drop-of-length-le}
+use lib.Seq.{drop-cons}
+use Rattle.base.specs.Lists.{tab, in-rows, find}
+use Rattle.base.proofs.Lists.{length-tab, getD-tab, row-of, column-of, place}
+use Rattle.trees.specs.Tables.{cell, first-filled, first-unequal}
+use Rattle.table_checks.specs.Checks.{unequal-from}
+
+-- A search through f 0, .., f (n − 1), from place k on.
+module _ {A : Type 0} (test : A → Bool) (n : ℕ) (f : ℕ → A) where
+  rest : (k : ℕ) → k < n → drop k (tab n f) ≡ f k ∷ drop (k + 1) (tab n f)
+  rest k l =
+      drop-cons (tab n f) k (f k) (rw length-tab l) ∙ rw (getD-tab n f k (f k) l, add-one)
+
+  find-here : (k : ℕ) → k < n → test (f k) ≡ true → find test (drop k (tab n f)) ≡ some (f k)
+  find-here k l t = ap (find test) (rest k l) ∙ (unfold find in rw (t, find))
+
+  find-on :
+      (k : ℕ) → k < n → test (f k) ≡ false → find test (drop k (tab n f)) ≡ find test (drop (k + 1) (tab n f))
+  find-on k l t = ap (find test) (rest k l) ∙ (unfold find in rw (t, find))
+
+  find-end : (k : ℕ) → n ≤ k → find test (drop k (tab n f)) ≡ none
+  find-end k l =
+      ap (find test) (drop-of-length-le (tab n f) {i = k} (rw length-tab l)) ∙ (unfold find in refl)
+
+-- The diagonal: the first leaf from i on whose cell is not 0.
+unfoldable pub filled-from : ℕ → List ℕ → ℕ → Option ℕ
+filled-from n t i = find (λ i. not (eqb (cell n t i i) 0)) (drop i (tab n (λ i. i)))
+
+module _ (n : ℕ) (t : List ℕ) where
+  pub filled-start : filled-from n t 0 ≡ first-filled n t
+  unfolding filled-from first-filled
+  filled-start = refl
+
+  pub filled-here : (i : ℕ) → i < n → cell n t i i ≢ 0 → filled-from n t i ≡ some i
+  unfolding filled-from
+  filled-here i l d =
+      find-here (λ i. not (eqb (cell n t i i) 0)) n (λ i. i) i l (rw (ne-eqb (cell n t i i) 0 d))
+
+  pub filled-on : (i : ℕ) → i < n → cell n t i i ≡ 0 → filled-from n t i ≡ filled-from n t (i + 1)
+  unfolding filled-from
+  filled-on i l e = find-on (λ i. not (eqb (cell n t i i) 0)) n (λ i. i) i l (rw e)
+
+  pub filled-end : (i : ℕ) → n ≤ i → filled-from n t i ≡ none
+  unfolding filled-from
+  filled-end i l = find-end (λ i. not (eqb (cell n t i i) 0)) n (λ i. i) i l
+
+  -- The halves: the first pair i, j with i < j and unequal cells, from place i * n + j on.
+  test : ℕ × ℕ → Bool
+  test p = ltb (p .0) (p .1) && not (eqb (cell n t (p .0) (p .1)) (cell n t (p .1) (p .0)))
+
+  pair : ℕ → ℕ × ℕ
+  pair k = (k / n, k % n)
+
+  test-at : (i j : ℕ) → j < n → test (pair (i * n + j)) ≡ test (i, j)
+  unfolding pair
+  test-at i j l = rw (row-of n i j l, column-of n i j l)
+
+  pub unequal-start : unequal-from n t 0 ≡ first-unequal n t
+  unfolding unequal-from first-unequal
+  unequal-start = refl
+
+  pub unequal-here :
+      (i j : ℕ) → i < j → j < n → cell n t i j ≢ cell n t j i → unequal-from n t (i * n + j) ≡ some (i, j)
+  unfolding unequal-from in-rows pair test
+  unequal-here i j a b d =
+      find-here test (n * n) pair (i * n + j) (place n i j (omega arith) b)
+      (test-at i j b ∙ rw (lt-ltb i j a, ne-eqb (cell n t i j) (cell n t j i) d))
+      ∙ rw (row-of n i j b, column-of n i j b)
+
+  step :
+      (i j : ℕ) → i < n → j < n → test (i, j) ≡ false
+      → unequal-from n t (i * n + j) ≡ unequal-from n t (i * n + (j + 1))
+  unfolding unequal-from in-rows pair test
+  step i j a b h =
+      let next : i * n + j + 1 ≡ i * n + (j + 1) = omega arith in
+      rw (← next) (find-on test (n * n) pair (i * n + j) (place n i j a b) (test-at i j b ∙ h))
+
+  pub unequal-on :
+      (i j : ℕ) → i < j → j < n → cell n t i j ≡ cell n t j i
+      → unequal-from n t (i * n + j) ≡ unequal-from n t (i * n + (j + 1))
+  unequal-on i j a b e =
+      step i j (omega arith) b (unfold test in rw (lt-ltb i j a, e, eq-eqb (cell n t j i) (cell n t j i) refl))
+
+  -- a row is searched from its diagonal on
+  pub unequal-after : (i j : ℕ) → i < n → j ≤ i + 1 → unequal-from n t (i * n) ≡ unequal-from n t (i * n + j)
+  unequal-after i zero a b = rw (add-zero (i * n))
+  unequal-after i (suc j) a b =
+      rw (← add-one j)
+      (unequal-after i j a (omega arith)
+      ∙ step i j a (omega arith) (unfold test in rw (le-ltb i j (omega arith))))
+
+  pub unequal-end : (k : ℕ) → n * n ≤ k → unequal-from n t k ≡ none
+  unfolding unequal-from in-rows pair test
+  unequal-end k l = find-end test (n * n) pair k l

@@ -1,0 +1,98 @@
+// What is judged of a lent table.
+use refusals::Outcome;
+use refusals::Refusal;
+ghost use mathlib.Core.Path.{_≡_};
+ghost use mathlib.Core.Bool.{cond};
+ghost use mathlib.Core.Option.{some};
+ghost use Prim.Native.Nat.{_+_, _*_, _<_};
+ghost use lib.Dec.{ltb};
+ghost use Rattle.refusals.specs.Refusals.{outcome-of};
+ghost use Rattle.trees.specs.Tables.{cell, first-filled, first-unequal, cells-refusal};
+ghost use Rattle.table_checks.specs.Operations.{table-refusal};
+ghost use Rattle.table_checks.specs.Checks.{Square, found-below, unequal-from, halves-refusal};
+
+// Cell (i, j) of a table.
+fn cell_at(n: usize, cells: &[u32], i: usize, j: usize) -> u32
+    requires { ⌜ Square n (now cells) × (i < n) × (j < n) ⌝ }
+    ensures { λ r. ⌜ r ≡ cell n (now (cells .entry)) i j ⌝ }
+{
+    cells[i * n + j]
+}
+
+// The first leaf whose diagonal cell is not 0, or n.
+fn filled(n: usize, cells: &[u32]) -> usize
+    requires { ⌜ Square n (now cells) ⌝ }
+    ensures { λ r. ⌜ first-filled n (now (cells .entry)) ≡ found-below n r ⌝ }
+{
+    let mut i: usize = 0;
+    while i < n {
+        if cell_at(n, cells, i, i) != 0 {
+            return i;
+        }
+        i += 1;
+    }
+    i
+}
+
+// The first j after i whose cell (i, j) differs from (j, i), or n.
+fn unequal_in_row(n: usize, cells: &[u32], i: usize) -> usize
+    requires { ⌜ Square n (now cells) × (i < n) ⌝ }
+    ensures { λ r. ⌜ unequal-from n (now (cells .entry)) (i * n)
+        ≡ cond (ltb r n) (some (i, r)) (unequal-from n (now (cells .entry)) ((i + 1) * n)) ⌝ }
+{
+    let mut j: usize = i + 1;
+    while j < n {
+        if cell_at(n, cells, i, j) != cell_at(n, cells, j, i) {
+            return j;
+        }
+        j += 1;
+    }
+    j
+}
+
+// The refusal of the first unequal pair, row by row.
+fn unequal(n: usize, cells: &[u32]) -> Outcome
+    requires { ⌜ Square n (now cells) ⌝ }
+    ensures { λ r. ⌜ r ≡ outcome-of (halves-refusal (first-unequal n (now (cells .entry)))) ⌝ }
+{
+    let mut i: usize = 0;
+    while i < n {
+        let j = unequal_in_row(n, cells, i);
+        if j < n {
+            return Outcome::Refused(Refusal::Halves(i, j));
+        }
+        i += 1;
+    }
+    Outcome::Done
+}
+
+// The checks 4 and 5: the whole diagonal is judged before the halves.
+fn wrong(n: usize, cells: &[u32]) -> Outcome
+    requires { ⌜ Square n (now cells) ⌝ }
+    ensures { λ r. ⌜ r ≡ outcome-of (cells-refusal n (now (cells .entry))) ⌝ }
+{
+    let i = filled(n, cells);
+    if i < n {
+        return Outcome::Refused(Refusal::Diagonal(i));
+    }
+    unequal(n, cells)
+}
+
+// All that is judged of a table of n leaves, with room for a result of `due` numbers: 1, 2, 3, 4, 5.
+pub fn judge(n: usize, cells: &[u32], due: usize, room: usize) -> Outcome
+    ensures { λ r. ⌜ r ≡ outcome-of (table-refusal n (now (cells .entry)) due room) ⌝ }
+{
+    if n < 3 {
+        return Outcome::Refused(Refusal::LeafCount);
+    }
+    if 128 < n {
+        return Outcome::Refused(Refusal::LeafCount);
+    }
+    if cells.len() != n * n {
+        return Outcome::Refused(Refusal::InputLength);
+    }
+    if room < due {
+        return Outcome::Refused(Refusal::OutputRoom);
+    }
+    wrong(n, cells)
+}

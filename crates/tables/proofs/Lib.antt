@@ -1,3 +1,0 @@
-pub mod Searches
-pub mod Verdicts
-pub mod Judging

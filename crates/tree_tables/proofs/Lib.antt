@@ -1,0 +1,5 @@
+pub mod Painting
+pub mod ListingSizes
+pub mod Joining
+pub mod Spreading
+pub mod Filling
