@@ -1,5 +1,5 @@
 -- The tree left by n − 1 merges has just the edges that 01 names: those of the leaves, and of the subtrees that merges
--- other than the last made. The idea: a state's subtrees are the leaves and what was made; hanging keeps edges.
+-- other than the last made. The idea: a state's subtrees are the leaves and what was made; rerooting keeps edges.
 use mathlib.Core.Path.{_≡_, refl, ap, sym, _∙_, subst}
 use mathlib.Core.Logic.{_⊎_, inl, inr}
 use mathlib.Core.Bool.{Bool, true, _||_}
@@ -278,7 +278,7 @@ module _ (n s : ℕ) (big : 3 ≤ n) (sp : 0 < s) (t : List ℕ) (h : IsTable n 
     | inr b ↦ from-start (p .1) (last .2 .right) X b
   ]
 
-  -- each part is an edge of the hung tree, and each edge of it is a part
+  -- each part is an edge of the rerooted tree, and each edge of it is a part
   part-edge : (X : Tree) → Among X parts → is-edge n (rerooted-ordered (join A B)) (leaves X) ≡ true
   part-edge X g =
       let r = rerooted-ordered-to n A B distinct-A distinct-B facing X (side-in X g) in

@@ -1,5 +1,5 @@
--- The tree left, hung from leaf 0 in standard order. Hanging a tree anew turns edges and keeps them, so it changes no
--- leaf, no pairing and no edge. Three subtrees that are all that is left give one hung tree, however they are merged.
+-- The tree left by merges, rerooted at leaf 0 ("hung from leaf 0" in 01), in standard order. Rerooting keeps the edges,
+-- so it changes no leaf and no pairing. Three subtrees that are all that is left give one tree, however they are merged.
 use mathlib.Core.Path.{_≡_, refl, ap, sym, _∙_}
 use mathlib.Core.Logic.{_⊎_, inl, inr, _≢_}
 use mathlib.Core.Bool.{Bool, true, false, not, _||_, and-false, or-assoc, Bool·not-not}
@@ -59,7 +59,7 @@ ordered-rerooted (node A B) a z =
     let z′ = zero-first A B (a .2) z in
     rw (z′, ordered-reroot-along A B (a .0) z′, ordered-is B (a .1))
 
--- Three subtrees that are all that is left: the ways to finish give one hung tree.
+-- Three subtrees that are all that is left: the ways to finish give one tree.
 three-first :
     (A B D : Tree) → leaves A 0 ≡ true → leaves B 0 ≡ false → leaves D 0 ≡ false
     → rerooted-ordered (join (join A B) D) ≡ reroot-ordered A (join B D)
@@ -93,7 +93,7 @@ rerooted-ordered-three A B D ab ad bd z = elim (or-cases (leaves A 0 || leaves B
       rw (join-comm A D ad) (three-last A B D a b d ad bd ∙ sym (three-first D A B d a b))
 ]
 
--- The hung tree of a tree R on all leaves: its leaves are distinct, in standard order, and are 1 to n − 1.
+-- A tree R on all leaves, rerooted: its leaves are distinct, in standard order, and are 1 to n − 1.
 node-left : (A1 A2 B : Tree) → Apart (node A1 A2) B → Apart A1 A2 → Apart A1 (join A2 B)
 node-left A1 A2 B r a k p = rw leaves-join (or-none _ _ (a k p) (r k (rw leaves-node (or-left _ _ p))))
 
@@ -219,7 +219,7 @@ reroot-ordered-paired n (node A1 A2) B r f i j p q li lj lp lq =
     (separates (leaves (node A1 A2)) i j p q) (λ h. paired-root A1 i j p q (rw (← inner) at h))
     (λ h. paired-root B i j p q (rw outer at h)))
 
--- so the counts of the hung tree are the sums along the paths of R
+-- so the counts of the rerooted tree are the sums along the paths of R
 pub rerooted-ordered-path-sum :
     (n : ℕ) (R : Tree) → Whole n R → (i j : ℕ) → i < n → j < n → i ≢ j
     → quartets n (rerooted-ordered R) i j ≡ path-sum n R i j

@@ -1,6 +1,6 @@
 -- The bound on cells, and three subtrees that are all that is left. In a state that reaches a tree, no cell between two
 -- subtrees is above the value expected of it. Where a step joins A and B, and a cell of A and a third subtree D has the
--- value expected before it, the three hold all leaves: A and D may be joined first, and the hung tree is the same.
+-- value expected before it, the three hold all leaves: A and D may be joined first, and the rerooted tree is the same.
 use mathlib.Core.Path.{_≡_, ap, sym, _∙_, subst}
 use mathlib.Core.Logic.{inl, inr}
 use mathlib.Core.Bool.{true, false, _||_}
@@ -206,8 +206,8 @@ module _ (n s : ℕ) (c : ℕ → ℕ → ℕ) (halves : EqualHalves n c) where
       last-step : Eligible n s c (step S i j) i l × Reaches n s c H (step (step S i j) i l)
       last-step = last-two (wf-go w i j e) i l (e .left) ll far all-three g
 
-      three-hung : rerooted-ordered (join (join A B) D) ≡ H
-      three-hung =
+      three-rerooted : rerooted-ordered (join (join A B) D) ≡ H
+      three-rerooted =
           let w′ = wf-go (wf-go w i j e) i l (last-step .0) in
           let one = last-single (step S i j) i l (e .left) all-three in
           rw (last-tree (step S i j) i l (e .left) all-three, ab, d) at (last-one w′ one (last-step .1))
@@ -216,7 +216,7 @@ module _ (n s : ℕ) (c : ℕ → ℕ → ℕ) (halves : EqualHalves n c) where
       pub pair-fits : Eligible n s c S i l
       pair-fits = first-too w i j l e ll il jl tight (last-step .0)
 
-      -- A and D first, and then B: eligible too, with the same hung tree.
+      -- A and D first, and then B: eligible too, with the same rerooted tree.
       abbrev R : State
       R = step S i l
 
@@ -274,12 +274,12 @@ module _ (n s : ℕ) (c : ℕ → ℕ → ℕ) (halves : EqualHalves n c) where
           full (wf-go w i l pair-fits) i j (e .left) (e .right) (other-step .apart)
           (rw (r-ad, r-b, size-join) (omega (arith, tight)))
 
-      same-hung : rerooted-ordered ((step R i j) .tree 0) ≡ H
-      same-hung =
+      same-rerooted : rerooted-ordered ((step R i j) .tree 0) ≡ H
+      same-rerooted =
           let z = rw (ab, d, leaves-join) at (all-three 0 (omega (arith, e .left))) in
           let turned-round = rerooted-ordered-three A B D (apart w i j (e .apart)) (apart w i l il)
           (apart w j l jl) z in
-          rw (last-tree R i j (e .left) all-other, r-ad, r-b) (sym turned-round ∙ three-hung)
+          rw (last-tree R i j (e .left) all-other, r-ad, r-b) (sym turned-round ∙ three-rerooted)
 
       pub three-left : Reaches n s c H R
-      three-left = go i j other-step (stop (last-single R i j (e .left) all-other) same-hung)
+      three-left = go i j other-step (stop (last-single R i j (e .left) all-other) same-rerooted)
