@@ -1,4 +1,5 @@
--- How many leaves a tree has (01, "Trees and listings"): n from 3 to 128. The upper limit is named here and only here.
+-- How many leaves a tree has (01, "Trees and listings"): n from 3 to 128. Definitions and laws name the upper limit by
+-- `most-leaves`; where code writes 128 or a size made from it, the proofs hold it against this number.
 use Prim.Native.Nat.{ℕ, _≤_}
 
 abbrev pub most-leaves : ℕ
