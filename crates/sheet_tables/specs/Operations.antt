@@ -20,7 +20,7 @@ unfoldable pub mirrored : ℕ → List ℕ → ℕ → ℕ → ℕ
 mirrored n c i j =
     cond (ltb i j) (getD c (cells-before n i j) 0) (cond (ltb j i) (getD c (cells-before n j i) 0) 0)
 
--- that table: n × n cells, row by row
+-- the table that has the cells c above the diagonal: n × n cells, row by row
 unfoldable pub table-with : ℕ → List ℕ → List ℕ
 table-with n c = tab (n * n) (λ k. mirrored n c (k / n) (k % n))
 
