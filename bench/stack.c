@@ -1,5 +1,8 @@
-/* Measures the stack that each call takes at 128 leaves: it runs on a thread whose stack was filled with a pattern, and
-   the bytes that have lost it are counted, less those of a thread that calls nothing. A comb is the deepest tree. */
+/* Measures the stack that each call takes at the most leaves, and fails where one takes more than the header promises.
+
+   A call runs on a thread whose stack was filled with a pattern, and the bytes that have lost it are counted, less
+   those of a thread that calls nothing. Every call is made with trees of several shapes, and with every fault that it
+   can be refused for; what is printed is the most that it took. */
 #define _POSIX_C_SOURCE 200809L
 #include "../include/quartree.h"
 #include <pthread.h>
@@ -7,38 +10,216 @@
 #include <stdlib.h>
 #include <string.h>
 
-enum { N = 128, STACK = 1 << 20, PATTERN = 0xA5 };
+enum { N = QUARTREE_MOST_LEAVES, POLL = QUARTREE_POLL_MOST_LEAVES, STACK = 1 << 20, PATTERN = 0xA5 };
 
 static uint16_t listing[QUARTREE_LISTING_NUMBERS(N)], standard[QUARTREE_LISTING_NUMBERS(N)];
-static uint16_t merges[QUARTREE_MERGE_NUMBERS(N)];
-static const uint16_t question[4] = {0, 5, 60, 127};
-static uint32_t table[N * N], sums[32 * 32];
+static uint16_t merges[QUARTREE_MERGE_NUMBERS(N)], question[4];
+static uint32_t own_table[N * N], table[N * N], table_out[N * N], sums[POLL * POLL];
 static int64_t gaps[N * N];
-static uint8_t sets[QUARTREE_SPLIT_BYTES(N)], bytes[QUARTREE_LISTING_BYTES(N)], sheet[QUARTREE_SHEET_MOST_BYTES];
-static struct quartree_record records[QUARTREE_POLL_RECORDS(32)];
-static size_t sheet_len;
+static uint8_t sets[QUARTREE_SPLIT_BYTES(N)], bytes[QUARTREE_LISTING_BYTES(N)], sheet[QUARTREE_SHEET_MOST_BYTES + 1];
+static struct quartree_record records[QUARTREE_POLL_RECORDS(POLL)];
+static size_t leaves, poll_leaves, numbers, cells, room, sheet_len, names_len, leaf;
 static uint64_t reply;
 
+/* ---- The calls --------------------------------------------------------------------------------------------------- */
+
+/* The room of an output: what is due, unless that is cut. */
+static size_t of(size_t due) { return due < room ? due : room; }
+
 static void nothing(void) { reply = 0; }
-static void check(void) { reply = quartree_check(N, listing, QUARTREE_LISTING_NUMBERS(N)); }
+static void check(void) { reply = quartree_check(leaves, listing, numbers); }
 static void standardise(void)
 {
-    reply = quartree_standardise(N, listing, QUARTREE_LISTING_NUMBERS(N), standard, QUARTREE_LISTING_NUMBERS(N));
+    reply = quartree_standardise(leaves, listing, numbers, standard, of(QUARTREE_LISTING_NUMBERS(N)));
 }
-static void splits(void) { reply = quartree_splits(N, listing, QUARTREE_LISTING_NUMBERS(N), sets, sizeof sets); }
-static void pairing(void) { reply = quartree_pairing(N, listing, QUARTREE_LISTING_NUMBERS(N), question, 4); }
-static void write_table(void) { reply = quartree_table(N, listing, QUARTREE_LISTING_NUMBERS(N), table, N * N); }
-static void gap(void) { reply = quartree_gap(N, table, N * N, listing, QUARTREE_LISTING_NUMBERS(N), gaps, N * N); }
-static void rebuild(void) { reply = quartree_rebuild(N, table, N * N, standard, QUARTREE_LISTING_NUMBERS(N)); }
+static void splits(void) { reply = quartree_splits(leaves, listing, numbers, sets, of(sizeof sets)); }
+static void pairing(void) { reply = quartree_pairing(leaves, listing, numbers, question, 4); }
+static void write_table(void) { reply = quartree_table(leaves, listing, numbers, table_out, of(N * N)); }
+static void gap(void) { reply = quartree_gap(leaves, table, cells, listing, numbers, gaps, of(N * N)); }
+static void rebuild(void)
+{
+    reply = quartree_rebuild(leaves, table, cells, standard, of(QUARTREE_LISTING_NUMBERS(N)));
+}
 static void guided(void)
 {
-    reply = quartree_rebuild_guided(N, table, N * N, merges, QUARTREE_MERGE_NUMBERS(N), standard,
-                                    QUARTREE_LISTING_NUMBERS(N));
+    reply = quartree_rebuild_guided(leaves, table, cells, merges, QUARTREE_MERGE_NUMBERS(N), standard,
+                                    of(QUARTREE_LISTING_NUMBERS(N)));
 }
-static void poll(void) { reply = quartree_poll(32, records, QUARTREE_POLL_RECORDS(32), sums, 32 * 32); }
-static void sheet_table(void) { reply = quartree_sheet_table(sheet, sheet_len, table, N * N); }
-static void sheet_name(void) { reply = quartree_sheet_name(sheet, sheet_len, N - 1); }
-static void rebuild_sheet(void) { reply = quartree_rebuild_sheet(sheet, sheet_len, bytes, sizeof bytes); }
+static void poll(void)
+{
+    reply = quartree_poll(poll_leaves, records, QUARTREE_POLL_RECORDS(POLL), sums, of(POLL * POLL));
+}
+static void check_sheet(void) { reply = quartree_check_sheet(sheet, sheet_len); }
+static void sheet_table(void) { reply = quartree_sheet_table(sheet, sheet_len, table_out, of(N * N)); }
+static void sheet_name(void) { reply = quartree_sheet_name(sheet, sheet_len, leaf); }
+static void rebuild_sheet(void) { reply = quartree_rebuild_sheet(sheet, sheet_len, bytes, of(sizeof bytes)); }
+
+static const struct {
+    const char *name;
+    void (*call)(void);
+} calls[] = {
+    {"check", check}, {"standardise", standardise}, {"splits", splits}, {"pairing", pairing}, {"table", write_table},
+    {"gap", gap}, {"rebuild", rebuild}, {"rebuild_guided", guided}, {"poll", poll}, {"check_sheet", check_sheet},
+    {"sheet_table", sheet_table}, {"sheet_name", sheet_name}, {"rebuild_sheet", rebuild_sheet},
+};
+enum { CALLS = sizeof calls / sizeof *calls };
+
+/* ---- Inputs with nothing wrong ----------------------------------------------------------------------------------- */
+
+static uint64_t state = 1;
+
+static size_t below(size_t bound)
+{
+    state = state * 6364136223846793005u + 1442695040888963407u;
+    return (size_t)(state >> 33) % bound;
+}
+
+/* Which two of so many subtrees merge next, the newest being the last of them: two combs, a balanced tree, and trees by
+   chance; of these, every other one is most like a comb. */
+enum { COMB_UP, COMB_DOWN, BALANCED, CHANCE, SHAPES = CHANCE + 6 };
+
+static void choose(int shape, size_t count, size_t *first, size_t *second)
+{
+    *first = shape == BALANCED ? 0 : count - 1;
+    *second = shape == BALANCED ? 1 : shape == COMB_DOWN ? count - 2 : 0;
+    if (shape >= CHANCE) {
+        if (shape % 2 == 0 || below(4) == 0)
+            *first = below(count);
+        *second = (*first + 1 + below(count - 1)) % count;
+    }
+}
+
+/* A tree of this shape, its merges and its table. Where turned is 1 the children of every row are exchanged. */
+static void fill_tree(int shape, size_t turned)
+{
+    uint16_t subtree[2 * N], held[2 * N];
+    size_t count = N - 1;
+    for (size_t k = 0; k < count; k++)
+        subtree[k] = held[k] = (uint16_t)(k + 1);
+    for (size_t row = 0; row < N - 2; row++) {
+        size_t first, second;
+        choose(shape, count, &first, &second);
+        listing[2 * row + turned] = subtree[first];
+        listing[2 * row + 1 - turned] = subtree[second];
+        merges[2 * row] = held[first];
+        merges[2 * row + 1] = held[second];
+        size_t low = first < second ? first : second, high = first < second ? second : first;
+        uint16_t left = held[first];
+        memmove(subtree + high, subtree + high + 1, (count - high - 1) * sizeof *subtree);
+        memmove(held + high, held + high + 1, (count - high - 1) * sizeof *held);
+        memmove(subtree + low, subtree + low + 1, (count - low - 2) * sizeof *subtree);
+        memmove(held + low, held + low + 1, (count - low - 2) * sizeof *held);
+        subtree[count - 2] = (uint16_t)(N + row);
+        held[count - 2] = left;
+        count--;
+    }
+    merges[2 * (N - 2)] = held[0];
+    merges[2 * (N - 2) + 1] = 0;
+    reply = quartree_table(N, listing, QUARTREE_LISTING_NUMBERS(N), own_table, N * N);
+}
+
+/* The longest sheet, with this table. */
+static void fill_sheet(void)
+{
+    size_t at = 0;
+    for (size_t i = 0; i < N; i++)
+        at += (size_t)snprintf((char *)sheet + at, sizeof sheet - at, "%c%040zu", 40, i);
+    names_len = at;
+    for (size_t i = 0; i < N; i++)
+        for (size_t j = i + 1; j < N; j++) {
+            sheet[at++] = (uint8_t)table[i * N + j];
+            sheet[at++] = (uint8_t)(table[i * N + j] >> 8);
+        }
+    const uint8_t trailer[8] = {N, 0, (uint8_t)names_len, (uint8_t)(names_len >> 8), 0, 0, 0x51, 0x54};
+    memcpy(sheet + at, trailer, sizeof trailer);
+    sheet_len = at + sizeof trailer;
+}
+
+static void fill(int shape, size_t turned)
+{
+    size_t k = 0;
+    fill_tree(shape, turned);
+    memcpy(table, own_table, sizeof table);
+    for (uint16_t i = 0; i < 4; i++)
+        question[i] = (uint16_t)(i * (N - 1) / 3);
+    fill_sheet();
+    for (uint8_t a = 0; a < POLL; a++)
+        for (uint8_t b = (uint8_t)(a + 1); b < POLL; b++)
+            for (uint8_t c = (uint8_t)(b + 1); c < POLL; c++)
+                for (uint8_t d = (uint8_t)(c + 1); d < POLL; d++, k++)
+                    records[k] = (struct quartree_record){a, b, c, d, (uint8_t)(k % 4)};
+    leaves = N;
+    poll_leaves = POLL;
+    numbers = QUARTREE_LISTING_NUMBERS(N);
+    cells = N * N;
+    room = SIZE_MAX;
+    leaf = N - 1;
+}
+
+/* ---- The faults, where they are found last ----------------------------------------------------------------------- */
+
+enum { LAST_RECORD = QUARTREE_POLL_RECORDS(POLL) - 1, LAST_STEP = QUARTREE_MERGES(N) - 1 };
+
+static void none(void) { }
+static void too_many_leaves(void)
+{
+    leaves = N + 1;
+    poll_leaves = POLL + 1;
+    sheet[sheet_len - 8] = N + 1;
+}
+static void input_short(void)
+{
+    numbers--;
+    cells--;
+}
+static void room_short(void) { room = 1; }
+static void diagonal_filled(void) { table[N * N - 1] = 1; }
+static void halves_unequal(void) { table[N * N - N - 1]++; }
+static void table_of_zeros(void)
+{
+    memset(table, 0, sizeof table);
+    fill_sheet();
+}
+static void one_cell_wrong(void)
+{
+    size_t i = below(N - 1), j = i + 1 + below(N - 1 - i);
+    table[N * i + j]++;
+    table[N * j + i]++;
+    fill_sheet();
+}
+static void any_table(void)
+{
+    for (size_t i = 0; i < N; i++)
+        for (size_t j = i + 1; j < N; j++)
+            table[N * i + j] = table[N * j + i] = (uint32_t)below(QUARTREE_TABLE_CELLS(N));
+    fill_sheet();
+}
+static void child_not_allowed(void) { listing[numbers - 1] = 0; }
+static void child_again(void) { listing[numbers - 1] = listing[0]; }
+static void leaf_not_there(void)
+{
+    question[3] = N;
+    leaf = N;
+}
+static void record_not_due(void) { records[LAST_RECORD].a++; }
+static void code_above_3(void) { records[LAST_RECORD].code = 4; }
+static void stop_at(size_t step) { merges[2 * step + 1] = merges[2 * step]; }
+static void first_proposal_stops(void) { stop_at(0); }
+static void middle_proposal_stops(void) { stop_at(LAST_STEP / 2); }
+static void last_proposal_stops(void) { stop_at(LAST_STEP); }
+static void other_ending(void) { sheet[sheet_len - 1]++; }
+static void offset_too_great(void) { sheet[sheet_len - 6]++; }
+static void bad_byte_in_last_name(void) { sheet[names_len - 1] = '_'; }
+static void last_name_again(void) { memcpy(sheet + names_len - 41, sheet, 41); }
+
+static void (*const faults[])(void) = {
+    none, too_many_leaves, input_short, room_short, diagonal_filled, halves_unequal, table_of_zeros, one_cell_wrong,
+    any_table, child_not_allowed, child_again, leaf_not_there, record_not_due, code_above_3, first_proposal_stops,
+    middle_proposal_stops, last_proposal_stops, other_ending, offset_too_great, bad_byte_in_last_name, last_name_again,
+};
+enum { FAULTS = sizeof faults / sizeof *faults };
+
+/* ---- The measurement --------------------------------------------------------------------------------------------- */
 
 static void *run(void *call)
 {
@@ -49,72 +230,46 @@ static void *run(void *call)
 /* The bytes of its stack that a thread with this call has written. */
 static size_t depth(void (*call)(void))
 {
-    unsigned char *stack = aligned_alloc(4096, STACK);
+    static _Alignas(4096) unsigned char stack[STACK];
     pthread_attr_t attributes;
     pthread_t thread;
     size_t untouched = 0;
-    if (stack == NULL)
-        exit(1);
     memset(stack, PATTERN, STACK);
     if (pthread_attr_init(&attributes) != 0 || pthread_attr_setstack(&attributes, stack, STACK) != 0
         || pthread_create(&thread, &attributes, run, &call) != 0 || pthread_join(thread, NULL) != 0)
         exit(1);
+    pthread_attr_destroy(&attributes);
     while (untouched < STACK && stack[untouched] == PATTERN)
         untouched++;
-    free(stack);
     return STACK - untouched;
-}
-
-/* A comb, its merges, its sheet, and a poll in which nothing is resolved. */
-static void fill(void)
-{
-    size_t at = 0, k = 0;
-    for (size_t row = 0; row < N - 2; row++) {
-        listing[2 * row] = (uint16_t)(row == 0 ? 1 : N + row - 1);
-        listing[2 * row + 1] = (uint16_t)(row + 2);
-        merges[2 * row] = 1;
-        merges[2 * row + 1] = (uint16_t)(row + 2);
-    }
-    merges[2 * (N - 2)] = 0;
-    merges[2 * (N - 2) + 1] = 1;
-    write_table();
-    for (size_t i = 0; i < N; i++)
-        at += (size_t)snprintf((char *)sheet + at, 8, "%cs%03zu", 4, i);
-    size_t offset = at;
-    for (size_t i = 0; i < N; i++)
-        for (size_t j = i + 1; j < N; j++) {
-            sheet[at++] = (uint8_t)table[i * N + j];
-            sheet[at++] = (uint8_t)(table[i * N + j] >> 8);
-        }
-    const uint8_t trailer[8] = {N, 0, (uint8_t)offset, (uint8_t)(offset >> 8), 0, 0, 0x51, 0x54};
-    memcpy(sheet + at, trailer, sizeof trailer);
-    sheet_len = at + sizeof trailer;
-    for (uint8_t a = 0; a < 32; a++)
-        for (uint8_t b = (uint8_t)(a + 1); b < 32; b++)
-            for (uint8_t c = (uint8_t)(b + 1); c < 32; c++)
-                for (uint8_t d = (uint8_t)(c + 1); d < 32; d++)
-                    records[k++] = (struct quartree_record){a, b, c, d, 3};
 }
 
 int main(void)
 {
-    static const struct {
-        const char *name;
-        void (*call)(void);
-    } calls[] = {
-        {"check", check}, {"standardise", standardise}, {"splits", splits}, {"pairing", pairing},
-        {"table", write_table}, {"gap", gap}, {"rebuild", rebuild}, {"rebuild_guided", guided}, {"poll", poll},
-        {"sheet_table", sheet_table}, {"sheet_name", sheet_name}, {"rebuild_sheet", rebuild_sheet},
-    };
-    fill();
-    size_t before = depth(nothing);
-    for (size_t c = 0; c < sizeof calls / sizeof *calls; c++) {
-        size_t bytes_taken = depth(calls[c].call) - before;
-        if (QUARTREE_NUMBER(reply) != QUARTREE_ACCEPTED) {
-            printf("%s was refused: %u\n", calls[c].name, QUARTREE_NUMBER(reply));
-            return 1;
+    size_t before = depth(nothing), taken[CALLS] = {0}, most = 0;
+    unsigned answered = 0;
+    for (size_t fault = 0; fault < FAULTS; fault++)
+        for (int shape = 0; shape < 2 * SHAPES; shape++) {
+            fill(shape / 2, shape % 2);
+            faults[fault]();
+            for (size_t c = 0; c < CALLS; c++) {
+                size_t bytes_taken = depth(calls[c].call) - before;
+                if (fault == 0 && QUARTREE_NUMBER(reply) != QUARTREE_ACCEPTED) {
+                    printf("%s was refused: %u\n", calls[c].name, QUARTREE_NUMBER(reply));
+                    return 1;
+                }
+                taken[c] = bytes_taken > taken[c] ? bytes_taken : taken[c];
+                answered |= 1u << QUARTREE_NUMBER(reply);
+            }
         }
-        printf("| %s | %zu |\n", calls[c].name, bytes_taken);
+    for (size_t c = 0; c < CALLS; c++) {
+        printf("| %s | %zu |\n", calls[c].name, taken[c]);
+        most = taken[c] > most ? taken[c] : most;
     }
-    return 0;
+    if (answered != (1u << 17) - 1) {
+        printf("not every refusal was met: %x\n", answered);
+        return 1;
+    }
+    printf("the most is %zu; QUARTREE_STACK_BYTES is %d\n", most, QUARTREE_STACK_BYTES);
+    return most <= QUARTREE_STACK_BYTES ? 0 : 1;
 }

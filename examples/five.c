@@ -22,15 +22,18 @@ int main(int argc, char **argv)
     uint8_t sheet[SHEET_ROOM];
     size_t len = read_sheet(argv[1], sheet);
 
+    /* A good sheet says its leaf count, and so the room that its listing takes; a bad one is refused by both calls. */
+    uint64_t reply = quartree_check_sheet(sheet, len);
+    size_t n = (size_t)QUARTREE_FIGURE(reply);
+    unsigned number = QUARTREE_NUMBER(reply);
     uint8_t listing[QUARTREE_LISTING_BYTES(QUARTREE_MOST_LEAVES)];
-    uint32_t number = quartree_rebuild_sheet(sheet, len, listing, sizeof listing);
+    if (number == QUARTREE_ACCEPTED)
+        number = quartree_rebuild_sheet(sheet, len, listing, QUARTREE_LISTING_BYTES(n));
     if (number != QUARTREE_ACCEPTED) {
-        printf("refused %u\n", (unsigned)number);
+        printf("refused %u\n", number);
         return 2;
     }
 
-    /* The sheet is accepted, so its trailer is there, and the leaf count in it is from 3 to 128. */
-    size_t n = sheet[len - 8] + 256u * sheet[len - 7];
     printf("leaves %zu\n", n);
     for (size_t row = 0; row < n - 2; row++)
         printf("%zu %u %u\n", n + row, number_at(listing, 2 * row), number_at(listing, 2 * row + 1));

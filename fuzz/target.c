@@ -16,12 +16,12 @@
 
 enum entry {
     CHECK, STANDARDISE, SPLITS, PAIRING, TABLE, GAP, REBUILD, REBUILD_GUIDED, POLL, SHEET_TABLE, SHEET_NAME,
-    REBUILD_SHEET, ENTRIES
+    REBUILD_SHEET, CHECK_SHEET, ENTRIES
 };
 
 static const char *const entry_name[ENTRIES] = {
     "check", "standardise", "splits", "pairing", "table", "gap", "rebuild", "rebuild_guided", "poll", "sheet_table",
-    "sheet_name", "rebuild_sheet"
+    "sheet_name", "rebuild_sheet", "check_sheet"
 };
 
 /* The reference's entries take what the archive's take. */
@@ -37,6 +37,7 @@ extern __typeof__(quartree_poll) reference_poll;
 extern __typeof__(quartree_sheet_table) reference_sheet_table;
 extern __typeof__(quartree_sheet_name) reference_sheet_name;
 extern __typeof__(quartree_rebuild_sheet) reference_rebuild_sheet;
+extern __typeof__(quartree_check_sheet) reference_check_sheet;
 
 /* A call: the numbers it is given, and the buffers it is lent, inputs in the order of its arguments and then the
    output. Of a sheet, n is what its trailer says and is not an argument. */
@@ -148,7 +149,7 @@ static void read_poll_call(struct source *source, struct call *call)
     lend_output(source, call, sizeof(uint32_t), result_of(n, QUARTREE_TABLE_CELLS(n)));
 }
 
-/* sheet_table, sheet_name, rebuild_sheet */
+/* sheet_table, sheet_name, rebuild_sheet, check_sheet */
 static void read_sheet_call(struct source *source, struct call *call)
 {
     static uint8_t sheet[MOST_SHEET_BYTES];
@@ -160,7 +161,7 @@ static void read_sheet_call(struct source *source, struct call *call)
         lend_output(source, call, sizeof(uint32_t), QUARTREE_TABLE_CELLS(n));
     else if (call->entry == REBUILD_SHEET)
         lend_output(source, call, 1, QUARTREE_LISTING_BYTES(n));
-    else
+    else if (call->entry == SHEET_NAME)
         call->leaf = draw_leaf(source, n);
 }
 
@@ -183,6 +184,7 @@ static void read_call(struct source *source, struct call *call)
     case SHEET_TABLE:
     case SHEET_NAME:
     case REBUILD_SHEET:
+    case CHECK_SHEET:
         read_sheet_call(source, call);
         break;
     default:
@@ -223,8 +225,10 @@ static uint64_t make_call(const struct call *call, enum taker taker)
         return ASK(sheet_table, LENT(0), LENT(1));
     case SHEET_NAME:
         return ASK(sheet_name, LENT(0), call->leaf);
-    default:
+    case REBUILD_SHEET:
         return ASK(rebuild_sheet, LENT(0), LENT(1));
+    default:
+        return ASK(check_sheet, LENT(0));
     }
 }
 

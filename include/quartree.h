@@ -66,6 +66,7 @@
 #define QUARTREE_POLL_LEAST_LEAVES 4
 #define QUARTREE_POLL_MOST_LEAVES 32
 #define QUARTREE_SHEET_MOST_BYTES 21512
+#define QUARTREE_STACK_BYTES 131072 /* of stack, enough for every call */
 
 #define QUARTREE_LISTING_NUMBERS(n) (2 * ((size_t)(n) - 2)) /* uint16_t of a listing: two a row */
 #define QUARTREE_LISTING_BYTES(n) (4 * ((size_t)(n) - 2))   /* bytes of a listing, for quartree_rebuild_sheet */
@@ -167,7 +168,7 @@ static inline const char *quartree_refusal_text(unsigned number)
    - Pointers are aligned for their element type.
    - An output overlaps no input of the same call. Inputs may overlap. An output may hold anything before the call.
    - While a call runs, nobody else writes its inputs, or reads or writes its output.
-   - The stack has 131,072 bytes left. (The most that was measured is 96,256, in quartree_gap.)
+   - The stack has QUARTREE_STACK_BYTES left. That is no promise that is proved: every call was measured to take less.
 
    ---- What every call promises ---------------------------------------------------------------------------------------
 
@@ -264,6 +265,11 @@ uint64_t quartree_poll(size_t n, const struct quartree_record *records, size_t c
 
    The leaf count n is the trailer's. Room for QUARTREE_MOST_LEAVES is enough for every sheet. Once a call has accepted
    a sheet of len bytes, n is sheet[len - 8] + 256 * sheet[len - 7]. */
+
+/* Checks a sheet.
+   Refused, in this order: 13, 1, 14, 15, 16.
+   Accepted: the sheet keeps the rules, and the figure is n. There is no output. */
+uint64_t quartree_check_sheet(const uint8_t *sheet, size_t len);
 
 /* Reads the table of a sheet.
    Refused, in this order: 13, 1, 14, 3, 15, 16.

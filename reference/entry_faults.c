@@ -15,6 +15,7 @@ uint64_t real_rebuild(size_t n, const uint32_t *table, size_t cells, uint16_t *o
 uint64_t real_rebuild_guided(size_t n, const uint32_t *table, size_t cells, const uint16_t *merges, size_t len,
                              uint16_t *out, size_t room);
 uint64_t real_poll(size_t n, const struct quartree_record *records, size_t count, uint32_t *out, size_t room);
+uint64_t real_check_sheet(const uint8_t *sheet, size_t len);
 uint64_t real_sheet_table(const uint8_t *sheet, size_t len, uint32_t *out, size_t room);
 uint64_t real_sheet_name(const uint8_t *sheet, size_t len, size_t leaf);
 uint32_t real_rebuild_sheet(const uint8_t *sheet, size_t sheet_len, uint8_t *listing, size_t listing_len);
@@ -229,5 +230,19 @@ uint64_t quartree_check(size_t n, const uint16_t *listing, size_t len)
 uint64_t quartree_rebuild(size_t n, const uint32_t *table, size_t cells, uint16_t *out, size_t room)
 {
     return real_rebuild(n, table, cells, out, (uint16_t)room);
+}
+
+#elif FAULT == 27 /* check_sheet: the leaf count not told */
+uint64_t quartree_check_sheet(const uint8_t *sheet, size_t len)
+{
+    uint64_t reply = real_check_sheet(sheet, len);
+    return NUMBER(reply) == QUARTREE_ACCEPTED ? QUARTREE_ACCEPTED : reply;
+}
+
+#elif FAULT == 28 /* check_sheet: equal names let pass */
+uint64_t quartree_check_sheet(const uint8_t *sheet, size_t len)
+{
+    uint64_t reply = real_check_sheet(sheet, len);
+    return NUMBER(reply) == QUARTREE_REFUSED_SAME_NAME ? (uint64_t)sheet[len - 8] << 8 : reply;
 }
 #endif

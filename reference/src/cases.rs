@@ -23,13 +23,14 @@ pub enum Kind {
     Rebuild,
     Guided,
     Poll,
+    CheckSheet,
     SheetTable,
     SheetName,
     RebuildSheet,
 }
 
 impl Kind {
-    pub const ALL: [Kind; 12] = [
+    pub const ALL: [Kind; 13] = [
         Kind::Check,
         Kind::Standardise,
         Kind::Splits,
@@ -39,6 +40,7 @@ impl Kind {
         Kind::Rebuild,
         Kind::Guided,
         Kind::Poll,
+        Kind::CheckSheet,
         Kind::SheetTable,
         Kind::SheetName,
         Kind::RebuildSheet,
@@ -55,6 +57,7 @@ impl Kind {
             Kind::Rebuild => "rebuild",
             Kind::Guided => "rebuild_guided",
             Kind::Poll => "poll",
+            Kind::CheckSheet => "check_sheet",
             Kind::SheetTable => "sheet_table",
             Kind::SheetName => "sheet_name",
             Kind::RebuildSheet => "rebuild_sheet",
@@ -71,6 +74,7 @@ impl Kind {
             Kind::Rebuild => &[1, 2, 3, 4, 5, 6],
             Kind::Guided => &[1, 2, 3, 4, 5, 12],
             Kind::Poll => &[1, 2, 3, 10, 11],
+            Kind::CheckSheet => &[13, 1, 14, 15, 16],
             Kind::SheetTable => &[13, 1, 14, 3, 15, 16],
             Kind::SheetName => &[13, 1, 14, 15, 16, 9],
             Kind::RebuildSheet => &[13, 1, 14, 3, 15, 16, 6],
@@ -90,6 +94,7 @@ pub enum Case {
     Rebuild { n: usize, table: Vec<u32>, room: usize },
     Guided { n: usize, table: Vec<u32>, merges: Vec<u16>, room: usize },
     Poll { n: usize, records: Vec<Record>, room: usize },
+    CheckSheet { sheet: Vec<u8> },
     SheetTable { sheet: Vec<u8>, room: usize },
     SheetName { sheet: Vec<u8>, leaf: usize },
     RebuildSheet { sheet: Vec<u8>, room: usize },
@@ -159,6 +164,7 @@ impl Case {
             Case::Rebuild { .. } => Kind::Rebuild,
             Case::Guided { .. } => Kind::Guided,
             Case::Poll { .. } => Kind::Poll,
+            Case::CheckSheet { .. } => Kind::CheckSheet,
             Case::SheetTable { .. } => Kind::SheetTable,
             Case::SheetName { .. } => Kind::SheetName,
             Case::RebuildSheet { .. } => Kind::RebuildSheet,
@@ -249,6 +255,13 @@ impl Case {
                 let got = part::poll(*n, &mut records, &mut out);
                 records.unchanged()?;
                 settle_output(got, no_number(due), &out)
+            }
+            Case::CheckSheet { sheet } => {
+                let due = sheet::check_sheet(sheet).map(|n| n as u64);
+                let mut sheet = Lent::input("sheet", sheet, chance);
+                let got = part::check_sheet(&mut sheet);
+                sheet.unchanged()?;
+                settle(got, due)
             }
             Case::SheetTable { sheet, room } => {
                 let due = sheet::sheet_table(sheet, *room).map(|(n, table)| (n as u64, table));

@@ -60,6 +60,10 @@ pub fn any_case(kind: Kind, chance: &mut Chance) -> Case {
             let records = lent_records(n, chance);
             Case::Poll { n, records, room: lent_room(table_length(n, chance), chance) }
         }
+        Kind::CheckSheet => {
+            let n = good_count(chance);
+            Case::CheckSheet { sheet: lent_sheet(n, vec![0; n * n], chance) }
+        }
         Kind::SheetTable => {
             let n = good_count(chance);
             let cells = (0..n * n).map(|_| u32::any(chance)).collect();

@@ -270,6 +270,7 @@ fn counts() -> Vec<Known> {
             Case::Gap { n, table: table.clone(), listing, room },
             Case::Rebuild { n, table: table.clone(), room },
             Case::Guided { n, table, merges, room },
+            Case::CheckSheet { sheet: trailer(n as u16, 0) },
             Case::SheetTable { sheet: trailer(n as u16, 0), room },
             Case::SheetName { sheet: trailer(n as u16, 0), leaf: 0 },
             Case::RebuildSheet { sheet: trailer(n as u16, 0), room },
@@ -313,6 +314,7 @@ fn lengths() -> Vec<Known> {
         Case::Poll { n, records: longer(&p7_poll()), room: 25 },
     ];
     let sheets = [
+        Case::CheckSheet { sheet: longer(&PAPER_SHEET) },
         Case::SheetTable { sheet: longer(&PAPER_SHEET), room: 25 },
         Case::SheetName { sheet: longer(&PAPER_SHEET), leaf: 4 },
         Case::RebuildSheet { sheet: longer(&PAPER_SHEET), room: 12 },
@@ -379,6 +381,7 @@ fn sheets() -> Vec<Known> {
     let rebuild = |name, room, due| Known { name, case: Case::RebuildSheet { sheet: PAPER_SHEET.into(), room }, due };
     let name = |name, sheet, leaf, due| Known { name, case: Case::SheetName { sheet, leaf }, due };
     let read = |name, sheet, due| Known { name, case: Case::SheetTable { sheet, room: 128 * 128 }, due };
+    let check = |name, sheet, due| Known { name, case: Case::CheckSheet { sheet }, due };
     let refused = |name, sheet, number, figure| read(name, sheet, Due::Refused(number, figure));
     let (forty, forty_one) = ([b'b'; 40], [b'b'; 41]);
     let p7_bytes = P7_LISTING.iter().flat_map(|&child| [i64::from(child), 0]).collect();
@@ -386,6 +389,9 @@ fn sheets() -> Vec<Known> {
     vec![
         rebuild("the paper's sheet", 12, Due::Written(0, p7_bytes)),
         rebuild("the paper's sheet and a short output", 11, Due::Refused(3, 0)),
+        check("the paper's sheet checked", PAPER_SHEET.into(), Due::Written(5, Vec::new())),
+        check("the longest sheet checked", longest_sheet(), Due::Written(128, Vec::new())),
+        check("equal names checked", three([b"a", b"b", b"b"]), Due::Refused(16, 2)),
         read("the paper's sheet as a table", PAPER_SHEET.into(), Due::Written(5, wide(&p7()))),
         name("the name of leaf 4", PAPER_SHEET.into(), 4, Due::Written(256 * 9 + 1, Vec::new())),
         name("leaf 5 of five", PAPER_SHEET.into(), 5, Due::Refused(9, 0)),

@@ -46,6 +46,7 @@ pub fn cases_of_tree(tree: &Tree, chance: &mut Chance) -> Vec<Case> {
     }));
     cases.extend([
         Case::Rebuild { n, table, room: children },
+        Case::CheckSheet { sheet: sheet.clone() },
         Case::SheetTable { sheet: sheet.clone(), room: cells },
         Case::SheetName { sheet: sheet.clone(), leaf: n - 1 },
         Case::RebuildSheet { sheet, room: 2 * children },

@@ -41,6 +41,7 @@ unsafe extern "C" {
         room: usize,
     ) -> u64;
     fn quartree_poll(n: usize, records: *const Record, count: usize, out: *mut u32, room: usize) -> u64;
+    fn quartree_check_sheet(sheet: *const u8, len: usize) -> u64;
     fn quartree_sheet_table(sheet: *const u8, len: usize, out: *mut u32, room: usize) -> u64;
     fn quartree_sheet_name(sheet: *const u8, len: usize, leaf: usize) -> u64;
     fn quartree_rebuild_sheet(sheet: *const u8, sheet_len: usize, listing: *mut u8, listing_len: usize) -> u32;
@@ -176,6 +177,10 @@ pub fn rebuild_guided(n: usize, table: &mut Lent<u32>, merges: &mut Lent<u16>, o
 
 pub fn poll(n: usize, records: &mut Lent<Record>, out: &mut Lent<u32>) -> u64 {
     unsafe { quartree_poll(n, records.pointer(), records.len(), out.pointer(), out.len()) }
+}
+
+pub fn check_sheet(sheet: &mut Lent<u8>) -> u64 {
+    unsafe { quartree_check_sheet(sheet.pointer(), sheet.len()) }
 }
 
 pub fn sheet_table(sheet: &mut Lent<u8>, out: &mut Lent<u32>) -> u64 {
@@ -316,6 +321,12 @@ mod own {
     ) -> u64 {
         let records = unsafe { from_raw_parts(records, count) };
         unsafe { give(poll::poll(n, records, room), out, room) }
+    }
+
+    #[no_mangle]
+    pub unsafe extern "C" fn quartree_check_sheet(sheet: *const u8, len: usize) -> u64 {
+        let sheet = unsafe { from_raw_parts(sheet, len) };
+        reply(sheet::check_sheet(sheet).map(|n| n as u64))
     }
 
     #[no_mangle]

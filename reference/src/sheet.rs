@@ -73,6 +73,13 @@ fn cells(sheet: &[u8], Figures { n, offset }: Figures) -> Vec<u32> {
     table
 }
 
+/// The leaf count of a sheet that keeps the rules: 13, 1, 14, 15, 16.
+pub fn check_sheet(sheet: &[u8]) -> Answer<usize> {
+    let figures = judge_trailer(sheet)?;
+    judge_names(sheet, figures)?;
+    Ok(figures.n)
+}
+
 /// The sheet's table and its leaf count: 13, 1, 14, 3, 15, 16.
 pub fn sheet_table(sheet: &[u8], room: usize) -> Answer<(usize, Vec<u32>)> {
     let figures = judge_trailer(sheet)?;

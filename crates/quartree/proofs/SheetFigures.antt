@@ -22,7 +22,7 @@ use Rattle.listings.proofs.ListingRefusal.{count-right}
 use Rattle.sheets.specs.Sheets.{leaves-of, offset-of, name-start, name, longest-sheet}
 use Rattle.sheets.specs.Operations.{right-ends, sheet-ends-refusal, right-sum, sheet-length-refusal, good-at, repeated}
 use Rattle.sheets.specs.Operations.{name-refusal, names-end-refusal}
-use Rattle.sheets.specs.Operations.{names-refusal, kept-sheet-refusal, sheet-refusal}
+use Rattle.sheets.specs.Operations.{names-refusal, kept-sheet-refusal, sheet-refusal, check-sheet-answer}
 use Rattle.sheet_tables.specs.Operations.{sheet-table-answer}
 use Rattle.sheet_names.specs.declared.NamePlace.{NamePlace}
 use Rattle.sheet_names.specs.Operations.{name-answer, placed, name-place-answer}
@@ -92,6 +92,10 @@ figures-small S n o due room =
     (λ d. last-small (names-refusal S n o) (names-small S n o (count-right n b))))))
 
 -- The operations.
+pub check-sheet-small : (S : List ℕ) → SmallFigures (outcome (check-sheet-answer S))
+unfolding check-sheet-answer sheet-refusal
+check-sheet-small S = answered-small _ tt (figures-small S _ _ 0 0)
+
 pub sheet-table-small : (S : List ℕ) (room : ℕ) → SmallFigures (outcome (sheet-table-answer S room))
 unfolding sheet-table-answer sheet-refusal
 sheet-table-small S room = answered-small _ _ (figures-small S _ _ _ room)

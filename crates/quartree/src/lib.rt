@@ -12,6 +12,7 @@ ghost use Rattle.tree_tables.specs.Operations.{table-answer};
 ghost use Rattle.gaps.specs.Operations.{gap-answer};
 ghost use Rattle.reconstruct.specs.Operations.{rebuild-answer, guided-answer};
 ghost use Rattle.sheets.specs.Sheets.{leaves-of, offset-of, name-start, name};
+ghost use Rattle.sheets.specs.Operations.{check-sheet-answer};
 ghost use Rattle.sheet_tables.specs.Operations.{sheet-table-answer};
 ghost use Rattle.sheet_names.specs.Operations.{name-answer};
 ghost use Rattle.sheet_trees.specs.Operations.{sheet-bytes-answer};
@@ -178,6 +179,14 @@ pub extern "C" fn quartree_rebuild_guided(
         (now (out .entry)) ⌝ }
 {
     reply_of(reconstruct::rebuild_guided(n, cells, merges, out))
+}
+
+// Whether a sheet keeps the rules, and its leaf count as the figure: 13, 1, 14, 15, 16.
+#[no_mangle]
+pub extern "C" fn quartree_check_sheet(sheet: &[u8]) -> u64
+    ensures { λ r. ⌜ r ≡ reply-with (leaves-of (now (sheet .entry))) (check-sheet-answer (now (sheet .entry))) ⌝ }
+{
+    reply_with(sheets::leaf_count_of(sheet), sheets::check_sheet(sheet))
 }
 
 // The table of a sheet, and its leaf count as the figure: 13, 1, 14, 3, 15, 16.

@@ -1,0 +1,538 @@
+/* Holds quartree.h against the scope and the archive: the numbers, sizes and figures that the header names stand here
+   once more, as the scope has them, and every call is made through the header.
+
+   Each call is accepted at its least leaf count, at 5 and at its most, with lengths that the macros say. At 5 leaves
+   it is refused in every way that its comment names: by one fault alone, and by that fault with all that are judged
+   after it. An accepted call has to write its result and nothing else; a refused one nothing. The tree is a comb: at 5
+   leaves that of the scope's sheet. It is C and C++. The first claim that fails is printed and ends the program. */
+#include "quartree.h"
+#include "quartree.h"
+#include <stdio.h>
+#include <stdlib.h>
+#include <string.h>
+
+/* ---- Without a call -------------------------------------------------------------------------------------------------
+
+   What the scope says of numbers and sizes; the sizes are worked out by hand. A claim that fails is not compiled. */
+
+#define HOLDS(name, claim) typedef char name[(claim) ? 1 : -1]
+
+HOLDS(refusal_0, QUARTREE_ACCEPTED == 0);
+HOLDS(refusal_1, QUARTREE_REFUSED_LEAF_COUNT == 1);
+HOLDS(refusal_2, QUARTREE_REFUSED_INPUT_LENGTH == 2);
+HOLDS(refusal_3, QUARTREE_REFUSED_OUTPUT_ROOM == 3);
+HOLDS(refusal_4, QUARTREE_REFUSED_DIAGONAL == 4);
+HOLDS(refusal_5, QUARTREE_REFUSED_HALVES == 5);
+HOLDS(refusal_6, QUARTREE_REFUSED_NO_TREE == 6);
+HOLDS(refusal_7, QUARTREE_REFUSED_CHILD == 7);
+HOLDS(refusal_8, QUARTREE_REFUSED_NAMED_BEFORE == 8);
+HOLDS(refusal_9, QUARTREE_REFUSED_QUESTION == 9);
+HOLDS(refusal_10, QUARTREE_REFUSED_RECORD == 10);
+HOLDS(refusal_11, QUARTREE_REFUSED_PAIRING_CODE == 11);
+HOLDS(refusal_12, QUARTREE_REFUSED_PROPOSAL == 12);
+HOLDS(refusal_13, QUARTREE_REFUSED_SHEET_ENDS == 13);
+HOLDS(refusal_14, QUARTREE_REFUSED_SHEET_LENGTH == 14);
+HOLDS(refusal_15, QUARTREE_REFUSED_NAME == 15);
+HOLDS(refusal_16, QUARTREE_REFUSED_SAME_NAME == 16);
+
+HOLDS(leaves, QUARTREE_LEAST_LEAVES == 3 && QUARTREE_MOST_LEAVES == 128);
+HOLDS(poll_leaves, QUARTREE_POLL_LEAST_LEAVES == 4 && QUARTREE_POLL_MOST_LEAVES == 32);
+HOLDS(sheet_bytes, QUARTREE_SHEET_MOST_BYTES == 21512 && 128 * 41 + 128 * 127 + 8 == 21512);
+HOLDS(listing_numbers, QUARTREE_LISTING_NUMBERS(3) == 2 && QUARTREE_LISTING_NUMBERS(128) == 252);
+HOLDS(listing_bytes, QUARTREE_LISTING_BYTES(3) == 4 && QUARTREE_LISTING_BYTES(128) == 504);
+HOLDS(table_cells, QUARTREE_TABLE_CELLS(3) == 9 && QUARTREE_TABLE_CELLS(128) == 16384);
+HOLDS(split_bytes, QUARTREE_SPLIT_BYTES(3) == 0 && QUARTREE_SPLIT_BYTES(128) == 2000);
+HOLDS(merges, QUARTREE_MERGES(3) == 2 && QUARTREE_MERGES(128) == 127);
+HOLDS(merge_numbers, QUARTREE_MERGE_NUMBERS(3) == 4 && QUARTREE_MERGE_NUMBERS(128) == 254);
+HOLDS(poll_records, QUARTREE_POLL_RECORDS(4) == 1 && QUARTREE_POLL_RECORDS(32) == 35960);
+
+HOLDS(record_bytes, sizeof(struct quartree_record) == 5);
+HOLDS(record_leaves, offsetof(struct quartree_record, a) == 0 && offsetof(struct quartree_record, b) == 1
+                         && offsetof(struct quartree_record, c) == 2 && offsetof(struct quartree_record, d) == 3);
+HOLDS(record_code, offsetof(struct quartree_record, code) == 4);
+
+HOLDS(number_of_reply, QUARTREE_NUMBER(0x12345678905) == 5 && QUARTREE_NUMBER(0x123456789FF) == 255);
+HOLDS(figure_of_reply, QUARTREE_FIGURE(0x12345678905) == 0x123456789);
+HOLDS(figures_of_reply, QUARTREE_FIGURE_X(0x12345678905) == 0x1234567 && QUARTREE_FIGURE_Y(0x12345678905) == 0x89);
+
+/* Words of each number's text that no other text has. */
+static const char *const words[] = {
+    "accepted", "leaf count is outside", "input", "output", "diagonal", "mirror", "no binary tree", "earlier row",
+    "named before", "question", "record", "pairing code", "proposal", "51 54", "n(n-1) + 8", "a bad length",
+    "equals an earlier one"
+};
+
+enum { REFUSALS = 16 };
+
+/* ---- What is lent ------------------------------------------------------------------------------------------------ */
+
+/* Every buffer, one element longer than it ever has to be, so that one that is too long can be lent. */
+struct lent {
+    uint16_t listing[QUARTREE_LISTING_NUMBERS(128) + 1], question[5], merges[QUARTREE_MERGE_NUMBERS(128) + 1];
+    uint32_t table[QUARTREE_TABLE_CELLS(128) + 1];
+    struct quartree_record records[QUARTREE_POLL_RECORDS(32) + 1];
+    uint8_t sheet[QUARTREE_SHEET_MOST_BYTES + 1];
+    union {
+        uint8_t bytes[QUARTREE_SPLIT_BYTES(128) + 1];
+        uint16_t numbers[QUARTREE_LISTING_NUMBERS(128) + 1];
+        uint32_t cells[QUARTREE_TABLE_CELLS(128) + 1];
+        int64_t gaps[QUARTREE_TABLE_CELLS(128) + 1];
+    } out;
+};
+
+static struct lent lent, before;
+
+/* The numbers that go with them: leaf count, lengths, room, and the leaf that is asked for. */
+static size_t n, listing_len, question_len, cells, merges_len, count, sheet_len, room, leaf;
+
+/* The results that are due. No gap is left between a tree and its own table. */
+static uint16_t standard[QUARTREE_LISTING_NUMBERS(128)];
+static uint8_t splits[QUARTREE_SPLIT_BYTES(128)], listing_bytes_due[QUARTREE_LISTING_BYTES(128)];
+static uint32_t table[QUARTREE_TABLE_CELLS(128)];
+static const int64_t gaps[QUARTREE_TABLE_CELLS(128)] = {0};
+
+/* The scope's sheet of five strains, and the standard listing of its tree. */
+static const uint8_t five_strains[] = {
+    0x01, 0x61, 0x01, 0x62, 0x01, 0x63, 0x01, 0x64, 0x01, 0x65, 0x03, 0x00, 0x01, 0x00, 0x00, 0x00, 0x00, 0x00, 0x01,
+    0x00, 0x00, 0x00, 0x00, 0x00, 0x01, 0x00, 0x01, 0x00, 0x03, 0x00, 0x05, 0x00, 0x0A, 0x00, 0x00, 0x00, 0x51, 0x54
+};
+static const uint16_t five_standard[] = {3, 4, 2, 5, 1, 6};
+
+static size_t pairs_of(size_t k) { return k < 2 ? 0 : k * (k - 1) / 2; }
+
+/* Writes a number low byte first. */
+static void put(uint8_t *at, size_t bytes, size_t number)
+{
+    for (size_t byte = 0; byte < bytes; byte++)
+        at[byte] = (uint8_t)(number >> (8 * byte));
+}
+
+/* The comb in which leaves 0, 1, 2 and so on leave one after the other. Its quartet a < b < c < d pairs a with b, so
+   cell (i,j) counts the pairs of leaves below i and those of leaves above j. Its listing names greater leaves first. */
+static void fill_tree(size_t leaves)
+{
+    memset(splits, 0, sizeof splits);
+    for (size_t row = 0; row < leaves - 2; row++) {
+        size_t next = leaves - 2 - row, rest = row == 0 ? leaves - 1 : leaves + row - 1;
+        lent.listing[2 * row] = standard[2 * row + 1] = (uint16_t)rest;
+        lent.listing[2 * row + 1] = standard[2 * row] = (uint16_t)next;
+        for (size_t k = next; row + 1 < leaves - 2 && k < leaves; k++)
+            splits[16 * row + k / 8] |= (uint8_t)(1u << k % 8);
+    }
+    for (size_t place = 0; place < QUARTREE_LISTING_NUMBERS(leaves); place++)
+        put(listing_bytes_due + 2 * place, 2, standard[place]);
+    for (size_t i = 0; i < leaves; i++)
+        for (size_t j = i; j < leaves; j++) {
+            size_t cell = i == j ? 0 : pairs_of(i) + pairs_of(leaves - 1 - j);
+            table[leaves * i + j] = table[leaves * j + i] = (uint32_t)cell;
+        }
+    memcpy(lent.table, table, QUARTREE_TABLE_CELLS(leaves) * sizeof *table);
+    for (size_t step = 0; step < QUARTREE_MERGES(leaves); step++) {
+        lent.merges[2 * step] = (uint16_t)(leaves - 1 - step);
+        lent.merges[2 * step + 1] = (uint16_t)(leaves - 2 - step);
+    }
+}
+
+/* A poll in which the comb's pairings are told. */
+static void fill_poll(size_t leaves)
+{
+    size_t record = 0;
+    for (size_t a = 0; a < leaves; a++)
+        for (size_t b = a + 1; b < leaves; b++)
+            for (size_t c = b + 1; c < leaves; c++)
+                for (size_t d = c + 1; d < leaves; d++, record++) {
+                    struct quartree_record due = {(uint8_t)a, (uint8_t)b, (uint8_t)c, (uint8_t)d, 0};
+                    lent.records[record] = due;
+                }
+}
+
+/* A sheet with the comb's table. Names are one letter, or 40 bytes where the leaves are too many for letters. */
+static void fill_sheet(size_t leaves)
+{
+    size_t at = 0, offset, name_len = leaves <= 26 ? 1 : 40;
+    for (size_t k = 0; k < leaves; k++) {
+        lent.sheet[at] = (uint8_t)name_len;
+        memset(lent.sheet + at + 1, '-', name_len);
+        lent.sheet[at + name_len] = (uint8_t)('a' + k % 26);
+        if (name_len > 1)
+            lent.sheet[at + 1] = (uint8_t)('A' + k / 26);
+        at += 1 + name_len;
+    }
+    offset = at;
+    for (size_t i = 0; i < leaves; i++)
+        for (size_t j = i + 1; j < leaves; j++, at += 2)
+            put(lent.sheet + at, 2, table[leaves * i + j]);
+    put(lent.sheet + at, 2, leaves);
+    put(lent.sheet + at + 2, 4, offset);
+    put(lent.sheet + at + 6, 2, 0x5451);
+    sheet_len = at + 8;
+}
+
+/* Everything anew, for so many leaves, with nothing wrong; the outputs hold something. */
+static void fill(size_t leaves)
+{
+    memset(&lent, 0xA5, sizeof lent);
+    fill_tree(leaves);
+    if (leaves <= QUARTREE_POLL_MOST_LEAVES)
+        fill_poll(leaves);
+    fill_sheet(leaves);
+    lent.question[0] = 0;
+    lent.question[1] = (uint16_t)(leaves - 1);
+    lent.question[2] = 1;
+    lent.question[3] = (uint16_t)(leaves - 2);
+    n = leaves;
+    listing_len = QUARTREE_LISTING_NUMBERS(leaves);
+    question_len = 4;
+    cells = QUARTREE_TABLE_CELLS(leaves);
+    merges_len = QUARTREE_MERGE_NUMBERS(leaves);
+    count = QUARTREE_POLL_RECORDS(leaves);
+    leaf = leaves - 1;
+}
+
+/* ---- The calls --------------------------------------------------------------------------------------------------- */
+
+static uint64_t check(void) { return quartree_check(n, lent.listing, listing_len); }
+static uint64_t standardise(void)
+{
+    return quartree_standardise(n, lent.listing, listing_len, lent.out.numbers, room);
+}
+static uint64_t list_splits(void) { return quartree_splits(n, lent.listing, listing_len, lent.out.bytes, room); }
+static uint64_t pairing(void)
+{
+    return quartree_pairing(n, lent.listing, listing_len, lent.question, question_len);
+}
+static uint64_t write_table(void) { return quartree_table(n, lent.listing, listing_len, lent.out.cells, room); }
+static uint64_t gap(void)
+{
+    return quartree_gap(n, lent.table, cells, lent.listing, listing_len, lent.out.gaps, room);
+}
+static uint64_t rebuild(void) { return quartree_rebuild(n, lent.table, cells, lent.out.numbers, room); }
+static uint64_t guided(void)
+{
+    return quartree_rebuild_guided(n, lent.table, cells, lent.merges, merges_len, lent.out.numbers, room);
+}
+static uint64_t poll(void) { return quartree_poll(n, lent.records, count, lent.out.cells, room); }
+static uint64_t check_sheet(void) { return quartree_check_sheet(lent.sheet, sheet_len); }
+static uint64_t sheet_table(void) { return quartree_sheet_table(lent.sheet, sheet_len, lent.out.cells, room); }
+static uint64_t sheet_name(void) { return quartree_sheet_name(lent.sheet, sheet_len, leaf); }
+static uint64_t rebuild_sheet(void)
+{
+    return quartree_rebuild_sheet(lent.sheet, sheet_len, lent.out.bytes, room);
+}
+
+/* How many elements a result has. */
+static size_t no_cells(size_t leaves) { return 0 * leaves; }
+static size_t of_listing(size_t leaves) { return QUARTREE_LISTING_NUMBERS(leaves); }
+static size_t of_splits(size_t leaves) { return QUARTREE_SPLIT_BYTES(leaves); }
+static size_t of_table(size_t leaves) { return QUARTREE_TABLE_CELLS(leaves); }
+static size_t of_bytes(size_t leaves) { return QUARTREE_LISTING_BYTES(leaves); }
+
+/* The figure of an accepted call. Of the question's leaves 0, n-1, 1, n-2 the first is paired with the third. */
+static uint64_t nothing(void) { return 0; }
+static uint64_t third(void) { return 1; }
+static uint64_t leaf_count(void) { return n; }
+static uint64_t place_of_last_name(void)
+{
+    size_t name_len = lent.sheet[0], place = n * (name_len + 1) - name_len;
+    return 256 * place + name_len;
+}
+
+/* What a call takes. */
+enum {
+    COUNT = 1, POLL_COUNT = 2, LISTING = 4, QUESTION = 8, TABLE = 16, MERGES = 32, RECORDS = 64, SHEET = 128,
+    LEAF = 256, OUTPUT = 512
+};
+
+struct entry {
+    const char *name;
+    uint64_t (*call)(void);
+    unsigned takes;
+    size_t least, most;             /* leaf counts */
+    unsigned char refused[8];       /* by these numbers, in this order; 0 ends them */
+    uint64_t (*figure)(void);       /* of an accepted call */
+    size_t (*result_cells)(size_t); /* what an accepted call writes */
+    const void *result;
+    size_t cell_bytes;
+};
+
+static const struct entry entries[] = {
+    {"check", check, COUNT | LISTING, 3, 128, {1, 2, 7, 8}, nothing, no_cells, standard, 1},
+    {"standardise", standardise, COUNT | LISTING | OUTPUT, 3, 128, {1, 2, 3, 7, 8}, nothing, of_listing, standard, 2},
+    {"splits", list_splits, COUNT | LISTING | OUTPUT, 3, 128, {1, 2, 3, 7, 8}, nothing, of_splits, splits, 1},
+    {"pairing", pairing, COUNT | LISTING | QUESTION, 4, 128, {1, 2, 7, 8, 9}, third, no_cells, standard, 1},
+    {"table", write_table, COUNT | LISTING | OUTPUT, 3, 128, {1, 2, 3, 7, 8}, nothing, of_table, table, 4},
+    {"gap", gap, COUNT | LISTING | TABLE | OUTPUT, 3, 128, {1, 2, 3, 7, 8, 4, 5}, nothing, of_table, gaps, 8},
+    {"rebuild", rebuild, COUNT | TABLE | OUTPUT, 3, 128, {1, 2, 3, 4, 5, 6}, nothing, of_listing, standard, 2},
+    {"rebuild_guided", guided, COUNT | TABLE | MERGES | OUTPUT, 3, 128, {1, 2, 3, 4, 5, 12}, nothing, of_listing,
+     standard, 2},
+    {"poll", poll, POLL_COUNT | RECORDS | OUTPUT, 4, 32, {1, 2, 3, 10, 11}, nothing, of_table, table, 4},
+    {"check_sheet", check_sheet, SHEET, 3, 128, {13, 1, 14, 15, 16}, leaf_count, no_cells, standard, 1},
+    {"sheet_table", sheet_table, SHEET | OUTPUT, 3, 128, {13, 1, 14, 3, 15, 16}, leaf_count, of_table, table, 4},
+    {"sheet_name", sheet_name, SHEET | LEAF, 3, 128, {13, 1, 14, 15, 16, 9}, place_of_last_name, no_cells, standard, 1},
+    {"rebuild_sheet", rebuild_sheet, SHEET | OUTPUT, 3, 128, {13, 1, 14, 3, 15, 16, 6}, nothing, of_bytes,
+     listing_bytes_due, 1},
+};
+enum { ENTRIES = sizeof entries / sizeof *entries };
+
+/* ---- The faults, at 5 leaves ------------------------------------------------------------------------------------- */
+
+static void leaves_2(void) { n = 2; }
+static void leaves_129(void) { n = 129; }
+static void poll_of_3(void) { n = 3; }
+static void poll_of_33(void) { n = 33; }
+static void sheet_of_2(void) { put(lent.sheet + sheet_len - 8, 2, 2); }
+static void sheet_of_129(void) { put(lent.sheet + sheet_len - 8, 2, 129); }
+static void listing_longer(void) { listing_len++; }
+static void listing_shorter(void) { listing_len--; }
+static void question_longer(void) { question_len++; }
+static void question_shorter(void) { question_len--; }
+static void table_longer(void) { cells++; }
+static void table_shorter(void) { cells--; }
+static void merges_longer(void) { merges_len++; }
+static void merges_shorter(void) { merges_len--; }
+static void poll_longer(void) { count++; }
+static void poll_shorter(void) { count--; }
+static void room_shorter(void) { room--; }
+static void diagonal_filled(void) { lent.table[5 * 3 + 3] = 1; }
+static void halves_unequal(void) { lent.table[5 * 1 + 3] ^= 1; }
+static void table_of_zeros(void) { memset(lent.table, 0, cells * sizeof *lent.table); }
+static void sheet_of_zeros(void) { memset(lent.sheet + 10, 0, 20); }
+static void leaf_0_a_child(void) { lent.listing[2] = 0; }
+static void own_node_a_child(void) { lent.listing[2] = 6; }
+static void child_again(void) { lent.listing[3] = lent.listing[0]; }
+static void leaf_5_asked(void) { lent.question[2] = 5; }
+static void leaf_asked_again(void) { lent.question[3] = lent.question[0]; }
+static void leaf_5_named(void) { leaf = 5; }
+static void record_not_due(void) { lent.records[2].d--; }
+static void code_4(void) { lent.records[3].code = 4; }
+static void proposals_from_0_2(void)
+{
+    lent.merges[0] = 0;
+    lent.merges[1] = 2;
+}
+static void leaf_5_proposed(void) { lent.merges[4] = 5; }
+static void subtree_twice(void) { lent.merges[7] = lent.merges[0]; }
+static void seven_bytes(void)
+{
+    memmove(lent.sheet, lent.sheet + sheet_len - 7, 7);
+    sheet_len = 7;
+}
+static void sheet_too_long(void) { sheet_len = 21513; }
+static void other_ending(void) { lent.sheet[sheet_len - 1] ^= 1; }
+static void other_ending_before(void) { lent.sheet[sheet_len - 2] ^= 1; }
+static void offset_11(void) { put(lent.sheet + sheet_len - 6, 4, 11); }
+static void empty_name(void) { lent.sheet[2] = 0; }
+static void name_past_offset(void) { lent.sheet[8] = 2; }
+static void underscore(void) { lent.sheet[5] = '_'; }
+static void byte_left_over(void)
+{
+    memmove(lent.sheet + 11, lent.sheet + 10, sheet_len - 10);
+    sheet_len++;
+    offset_11();
+}
+static void name_again(void) { lent.sheet[7] = lent.sheet[3]; }
+
+struct fault {
+    unsigned number;  /* the refusal's */
+    unsigned scope;   /* the same, as the scope has it */
+    uint64_t figure;
+    unsigned in;      /* what has the fault: of those that a call takes */
+    void (*make)(void);
+    int last;         /* it is judged after every other fault of a sheet */
+};
+
+static const struct fault faults[] = {
+    {QUARTREE_REFUSED_LEAF_COUNT, 1, 0, COUNT, leaves_2, 0},
+    {QUARTREE_REFUSED_LEAF_COUNT, 1, 0, COUNT, leaves_129, 0},
+    {QUARTREE_REFUSED_LEAF_COUNT, 1, 0, POLL_COUNT, poll_of_3, 0},
+    {QUARTREE_REFUSED_LEAF_COUNT, 1, 0, POLL_COUNT, poll_of_33, 0},
+    {QUARTREE_REFUSED_LEAF_COUNT, 1, 0, SHEET, sheet_of_2, 0},
+    {QUARTREE_REFUSED_LEAF_COUNT, 1, 0, SHEET, sheet_of_129, 0},
+    {QUARTREE_REFUSED_INPUT_LENGTH, 2, 0, LISTING, listing_longer, 0},
+    {QUARTREE_REFUSED_INPUT_LENGTH, 2, 0, LISTING, listing_shorter, 0},
+    {QUARTREE_REFUSED_INPUT_LENGTH, 2, 0, QUESTION, question_longer, 0},
+    {QUARTREE_REFUSED_INPUT_LENGTH, 2, 0, QUESTION, question_shorter, 0},
+    {QUARTREE_REFUSED_INPUT_LENGTH, 2, 0, TABLE, table_longer, 0},
+    {QUARTREE_REFUSED_INPUT_LENGTH, 2, 0, TABLE, table_shorter, 0},
+    {QUARTREE_REFUSED_INPUT_LENGTH, 2, 0, MERGES, merges_longer, 0},
+    {QUARTREE_REFUSED_INPUT_LENGTH, 2, 0, MERGES, merges_shorter, 0},
+    {QUARTREE_REFUSED_INPUT_LENGTH, 2, 0, RECORDS, poll_longer, 0},
+    {QUARTREE_REFUSED_INPUT_LENGTH, 2, 0, RECORDS, poll_shorter, 0},
+    {QUARTREE_REFUSED_OUTPUT_ROOM, 3, 0, OUTPUT, room_shorter, 0},
+    {QUARTREE_REFUSED_DIAGONAL, 4, 3, TABLE, diagonal_filled, 0},
+    {QUARTREE_REFUSED_HALVES, 5, 256 * 1 + 3, TABLE, halves_unequal, 0},
+    {QUARTREE_REFUSED_NO_TREE, 6, 0, TABLE, table_of_zeros, 0},
+    {QUARTREE_REFUSED_NO_TREE, 6, 0, SHEET, sheet_of_zeros, 0},
+    {QUARTREE_REFUSED_CHILD, 7, 2, LISTING, leaf_0_a_child, 0},
+    {QUARTREE_REFUSED_CHILD, 7, 2, LISTING, own_node_a_child, 0},
+    {QUARTREE_REFUSED_NAMED_BEFORE, 8, 3, LISTING, child_again, 0},
+    {QUARTREE_REFUSED_QUESTION, 9, 2, QUESTION, leaf_5_asked, 0},
+    {QUARTREE_REFUSED_QUESTION, 9, 3, QUESTION, leaf_asked_again, 0},
+    {QUARTREE_REFUSED_QUESTION, 9, 0, LEAF, leaf_5_named, 0},
+    {QUARTREE_REFUSED_RECORD, 10, 2, RECORDS, record_not_due, 0},
+    {QUARTREE_REFUSED_PAIRING_CODE, 11, 3, RECORDS, code_4, 0},
+    {QUARTREE_REFUSED_PROPOSAL, 12, 0, MERGES, proposals_from_0_2, 0},
+    {QUARTREE_REFUSED_PROPOSAL, 12, 2, MERGES, leaf_5_proposed, 0},
+    {QUARTREE_REFUSED_PROPOSAL, 12, 3, MERGES, subtree_twice, 0},
+    {QUARTREE_REFUSED_SHEET_ENDS, 13, 0, SHEET, seven_bytes, 0},
+    {QUARTREE_REFUSED_SHEET_ENDS, 13, 0, SHEET, sheet_too_long, 0},
+    {QUARTREE_REFUSED_SHEET_ENDS, 13, 0, SHEET, other_ending, 0},
+    {QUARTREE_REFUSED_SHEET_ENDS, 13, 0, SHEET, other_ending_before, 0},
+    {QUARTREE_REFUSED_SHEET_LENGTH, 14, 0, SHEET, offset_11, 0},
+    {QUARTREE_REFUSED_NAME, 15, 1, SHEET, empty_name, 0},
+    {QUARTREE_REFUSED_NAME, 15, 2, SHEET, underscore, 0},
+    {QUARTREE_REFUSED_NAME, 15, 4, SHEET, name_past_offset, 1},
+    {QUARTREE_REFUSED_NAME, 15, 5, SHEET, byte_left_over, 1},
+    {QUARTREE_REFUSED_SAME_NAME, 16, 3, SHEET, name_again, 0},
+};
+enum { FAULTS = sizeof faults / sizeof *faults };
+
+/* ---- Making the calls -------------------------------------------------------------------------------------------- */
+
+static unsigned calls;
+
+static void claim(int holds, const char *entry, const char *what, unsigned number)
+{
+    if (holds)
+        return;
+    printf("header: quartree_%s: %s (%u leaves lent, refusal %u due)\n", entry, what, (unsigned)n, number);
+    exit(1);
+}
+
+static void fill_for(const struct entry *entry, size_t leaves)
+{
+    fill(leaves);
+    room = entry->result_cells(leaves);
+}
+
+static uint64_t make(const struct entry *entry)
+{
+    calls++;
+    memcpy(&before, &lent, sizeof lent);
+    return entry->call();
+}
+
+/* The call is accepted, and writes its result and nothing else. */
+static void accept(const struct entry *entry)
+{
+    uint64_t reply = make(entry);
+    claim(QUARTREE_NUMBER(reply) == (unsigned)QUARTREE_ACCEPTED, entry->name, "is refused", 0);
+    claim(QUARTREE_FIGURE(reply) == entry->figure(), entry->name, "has another figure", 0);
+    memcpy(&before.out, entry->result, entry->result_cells(n) * entry->cell_bytes);
+    claim(memcmp(&before, &lent, sizeof lent) == 0, entry->name, "leaves something else in a buffer", 0);
+}
+
+/* The call is refused by this fault, and changes nothing. quartree_rebuild_sheet alone tells no figure. */
+static void refuse(const struct entry *entry, const struct fault *fault)
+{
+    uint64_t reply = make(entry), figure = entry->call == rebuild_sheet ? 0 : fault->figure;
+    claim(fault->number == fault->scope, entry->name, "the header numbers the refusal otherwise", fault->scope);
+    claim(QUARTREE_NUMBER(reply) == fault->number, entry->name, "has another number", fault->scope);
+    claim(QUARTREE_FIGURE(reply) == figure, entry->name, "has another figure", fault->scope);
+    claim(memcmp(&before, &lent, sizeof lent) == 0, entry->name, "is refused and changes a buffer", fault->scope);
+}
+
+/* Can the call have this fault? */
+static int can_have(const struct entry *entry, const struct fault *fault, unsigned number)
+{
+    return fault->scope == number && (fault->in & entry->takes) != 0;
+}
+
+/* The faults of a call's refusals from this place on. */
+static void make_faults(const struct entry *entry, size_t place)
+{
+    for (; entry->refused[place] != 0; place++)
+        for (size_t f = 0; f < FAULTS; f++)
+            if (can_have(entry, &faults[f], entry->refused[place]) && !faults[f].last)
+                faults[f].make();
+}
+
+/* Every fault by itself, and with all that are judged after it. */
+static unsigned try_faults(const struct entry *entry)
+{
+    unsigned met = 0;
+    for (size_t place = 0; entry->refused[place] != 0; place++)
+        for (size_t f = 0; f < FAULTS; f++)
+            if (can_have(entry, &faults[f], entry->refused[place])) {
+                fill_for(entry, 5);
+                faults[f].make();
+                refuse(entry, &faults[f]);
+                met |= 1u << faults[f].number;
+                if (faults[f].last)
+                    continue;
+                fill_for(entry, 5);
+                make_faults(entry, place + 1);
+                faults[f].make();
+                refuse(entry, &faults[f]);
+            }
+    for (size_t place = 0; entry->refused[place] != 0; place++)
+        claim((met >> entry->refused[place] & 1) != 0, entry->name, "no fault is tried", entry->refused[place]);
+    return met;
+}
+
+/* At the least and the most leaves the lengths and the room that the macros say are right, and one less or more is
+   not. */
+static void try_sizes(const struct entry *entry, size_t leaves)
+{
+    fill_for(entry, leaves);
+    accept(entry);
+    room++;
+    accept(entry);
+    for (size_t f = 0; f < FAULTS; f++)
+        if (can_have(entry, &faults[f], 2) || can_have(entry, &faults[f], 3)) {
+            fill_for(entry, leaves);
+            if (faults[f].scope == 3 && room == 0)
+                continue;
+            faults[f].make();
+            refuse(entry, &faults[f]);
+        }
+}
+
+/* The scope's gaps: of the table of zeros -3 at (0,1) and 0 at (0,3), and the greatest there is. */
+static void try_gaps(void)
+{
+    fill(5);
+    room = cells;
+    memset(lent.table, 0, sizeof lent.table);
+    lent.table[5 * 0 + 3] = lent.table[5 * 3 + 0] = UINT32_MAX;
+    claim(gap() == 0 && lent.out.gaps[5 * 0 + 1] == -3 && lent.out.gaps[5 * 0 + 3] == 4294967295, "gap",
+          "has other numbers", 0);
+    lent.table[5 * 0 + 3] = lent.table[5 * 3 + 0] = 0;
+    claim(gap() == 0 && lent.out.gaps[5 * 0 + 3] == 0, "gap", "has other numbers", 0);
+}
+
+/* Each number has a text of its own, and numbers of no refusal have another. */
+static void try_texts(void)
+{
+    const char *none = quartree_refusal_text(REFUSALS + 1);
+    for (unsigned number = 0; number <= REFUSALS; number++)
+        for (unsigned other = 0; other <= REFUSALS; other++)
+            claim((strstr(quartree_refusal_text(other), words[number]) != NULL) == (number == other), "refusal_text",
+                  "has another text", number);
+    for (unsigned number = 0; number <= REFUSALS; number++)
+        claim(strcmp(none, quartree_refusal_text(number)) != 0, "refusal_text", "has the text of no refusal", number);
+    claim(none[0] != '\0' && strcmp(none, quartree_refusal_text(255)) == 0
+              && strcmp(none, quartree_refusal_text((unsigned)-1)) == 0,
+          "refusal_text", "has no text for other numbers", 0);
+}
+
+int main(void)
+{
+    unsigned met = 0;
+    fill(5);
+    claim(sheet_len == sizeof five_strains && memcmp(lent.sheet, five_strains, sheet_len) == 0
+              && memcmp(standard, five_standard, sizeof five_standard) == 0,
+          "rebuild_sheet", "the sheet is not the scope's", 0);
+    for (size_t e = 0; e < ENTRIES; e++) {
+        try_sizes(&entries[e], entries[e].least);
+        try_sizes(&entries[e], 5);
+        try_sizes(&entries[e], entries[e].most);
+        met |= try_faults(&entries[e]);
+    }
+    for (unsigned number = 1; number <= REFUSALS; number++)
+        claim((met >> number & 1) != 0, "*", "no call is refused", number);
+    try_gaps();
+    try_texts();
+    printf("header: %u calls of %u entries, every refusal met\n", calls, (unsigned)ENTRIES);
+    return 0;
+}
