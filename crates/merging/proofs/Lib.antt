@@ -11,7 +11,9 @@ pub mod Rebuilds
 pub mod Ends
 pub mod Rooted
 pub mod Demand3
+pub mod Meaning
 pub mod FinalEdges
 pub mod SameTree
+pub mod OneTable
 pub mod Speed
 pub mod Cases

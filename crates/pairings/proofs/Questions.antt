@@ -12,12 +12,12 @@ use lib.Dec.{leb, eqb}
 use lib.ListN.{length, getD, take}
 use Rattle.base.specs.Lists.{tab, any-in}
 use Rattle.base.proofs.Bools.{never, or-neither}
-use Rattle.base.proofs.Lists.{length-tab, getD-tab, none-not-some, find-none}
+use Rattle.base.proofs.Lists.{length-tab, getD-tab, none-not-some, none-found, find-none}
 use Rattle.refusals.specs.declared.Refusal.{Refusal}
 use Rattle.refusals.specs.declared.Refusal.the-variants.{Question}
 use Rattle.listings.specs.Operations.{wrong-at, question-refusal}
 use Rattle.trees.proofs.Pairings.{Four}
-use Rattle.pairings.proofs.Finds.{none-found, first-found, any-before}
+use Rattle.pairings.proofs.Finds.{first-found, any-before}
 
 -- the leaves of a question are four different ones
 abbrev pub FourAsked : ℕ → List ℕ → Type 0
@@ -26,7 +26,7 @@ FourAsked n q = Four n (getD q 0 0) (getD q 1 0) (getD q 2 0) (getD q 3 0)
 module _ (n : ℕ) (q : List ℕ) where
   pub question-good : ((i : ℕ) → i < length q → wrong-at n q i ≡ false) → question-refusal n q ≡ none
   unfolding question-refusal
-  question-good h = rw (none-found (wrong-at n q) (length q) h, question-refusal)
+  question-good h = rw (none-found (wrong-at n q) (length q) (λ p. p) h, question-refusal)
 
   pub question-bad :
       (p : ℕ) → p < length q → wrong-at n q p ≡ true → ((i : ℕ) → i < p → wrong-at n q i ≡ false)

@@ -131,7 +131,7 @@ rising-four n a b c d l = record {
 }
 
 -- nothing is added on the diagonal
-code-diagonal :
+pub code-diagonal :
     (p : ℕ) (r : Record) (i : ℕ) → r .a < r .b → r .b < r .c → r .c < r .d → of-code p r i i ≡ false
 unfolding of-code
 code-diagonal zero r i ab bc cd = rw (cell-diagonal (r .a) (r .b) i ab, cell-diagonal (r .c) (r .d) i cd)
@@ -314,7 +314,7 @@ module _ (n : ℕ) (T : Tree) (t : IsTree n T) (R : List Record) (due : length R
       own-cells (k / n) (k % n) (div-lt-iff-lt-mul z .1 l) (mod-lt k z))
 
 -- an answer that is a result: no refusal arises, and it is this result
-accepted-is :
+pub accepted-is :
     {A : Type 0} (o : Option Refusal) (x y : A) → answered o x ≡ accepted y → (o ≡ none) × (x ≡ y)
 unfolding answered
 accepted-is none x y h = (refl, cc)

@@ -1,0 +1,124 @@
+-- What the answers of the two rebuilds mean, of a table with a zero diagonal and equal halves: they mean what
+-- specs/Meaning.antt says, which fixes them. It follows from demand 3, and so does that every order of eligible merges
+-- ends alike.
+use mathlib.Core.Path.{_≡_, refl, ap, sym, _∙_}
+use mathlib.Core.Logic.{_⊎_, inl, inr, _↔_}
+use mathlib.Core.Bool.{true}
+use mathlib.Core.List.{List}
+use mathlib.Core.Option.{none}
+use Prim.Native.Nat.{ℕ, _-_, _<_}
+use native.Mathlib.Omega.{arith}
+use lib.ListN.{length}
+use Rattle.base.proofs.Bools.{bool?}
+use Rattle.limits.specs.Limits.{IsLeafCount}
+use Rattle.refusals.specs.declared.Refusal.the-variants.{NoTree, Proposal}
+use Rattle.refusals.specs.Refusals.{Answer, accepted, refused}
+use Rattle.refusals.proofs.Answers.{accepted-same, accepted-not-refused}
+use Rattle.trees.specs.Tables.{IsTable}
+use Rattle.merging.specs.MergeLists.{Pair, after, each-eligible, Finished, subtrees, final-listing}
+use Rattle.merging.specs.Rebuilds.{rebuilt, guided}
+use Rattle.merging.specs.Demand3.{OneTree, NoTreeHas, FirstIneligible}
+use Rattle.merging.specs.Meaning.{OnlyTree, HasTree, HasNoTree, TableMeans, the-only-tree, no-tree}
+use Rattle.merging.specs.Meaning.{ProposalsMean, each-is-eligible, one-is-not}
+use Rattle.merging.proofs.Rebuilds.{own-list, own-finished, guided-accepted, guided-refused, first-refused}
+use Rattle.merging.proofs.Demand3.{demand-3, guided-own}
+
+-- two listings of the only tree that has a table are one
+pub only-one : (n : ℕ) (t l l′ : List ℕ) → OnlyTree n t l → OnlyTree n t l′ → l ≡ l′
+only-one n t l l′ h h′ = sym (h .is-standard) ∙ h′ .no-other l (h .keeps-rules) (h .has-table)
+
+-- the meaning of our own rebuild's answer, and what follows of an answer that has it
+module _ (n : ℕ) (t : List ℕ) where
+  pub meant-only : {a : Answer (List ℕ)} → TableMeans n t a → (l : List ℕ) → a ≡ accepted l → OnlyTree n t l
+  meant-only (the-only-tree h) l e = rw (accepted-same _ l e) at h
+  meant-only (no-tree h) l e = absurd (accepted-not-refused l NoTree (sym e))
+
+  pub meant-accepted : {a : Answer (List ℕ)} → TableMeans n t a → ((l : List ℕ) × (a ≡ accepted l)) ↔ HasTree n t
+  meant-accepted (the-only-tree {l} h) = (λ e. (l, h .keeps-rules, h .has-table), λ e. (l, refl))
+  meant-accepted (no-tree h) = (
+    λ e. absurd (accepted-not-refused (e .0) NoTree (sym (e .1))),
+    λ e. absurd (h (e .0) (e .1) (e .2)),
+  )
+
+  pub meant-refused : {a : Answer (List ℕ)} → TableMeans n t a → (a ≡ refused NoTree) ↔ HasNoTree n t
+  meant-refused (the-only-tree {l} h) = (
+    λ e. absurd (accepted-not-refused l NoTree e),
+    λ none. absurd (none l (h .keeps-rules) (h .has-table)),
+  )
+  meant-refused (no-tree h) = (λ e. h, λ e. refl)
+
+  pub table-fixed : {a b : Answer (List ℕ)} → TableMeans n t a → TableMeans n t b → a ≡ b
+  table-fixed (the-only-tree h) g =
+      let some-tree = meant-accepted g .1 (_, h .keeps-rules, h .has-table) in
+      ap accepted (only-one n t _ _ h (meant-only g (some-tree .0) (some-tree .1))) ∙ sym (some-tree .1)
+  table-fixed (no-tree h) g = sym (meant-refused g .1 h)
+
+  -- the meaning of a guided rebuild's answer fixes it too
+  not-both : (L : List Pair) (k : ℕ) → each-eligible n 1 t L ≡ true → FirstIneligible n 1 t L k → ⊥
+  not-both L k e f =
+      accepted-not-refused (final-listing n L) (Proposal k)
+      (sym (guided-accepted n 1 t L e) ∙ first-refused n 1 t L k f)
+
+  pub proposals-fixed :
+      (L : List Pair) {a b : Answer (List ℕ)} → ProposalsMean n t L a → ProposalsMean n t L b → a ≡ b
+  proposals-fixed L (each-is-eligible e h) (each-is-eligible e′ h′) = ap accepted (only-one n t _ _ h h′)
+  proposals-fixed L (each-is-eligible e h) (one-is-not f) = absurd (not-both L _ e f)
+  proposals-fixed L (one-is-not f) (each-is-eligible e h) = absurd (not-both L _ e f)
+  proposals-fixed L (one-is-not f) (one-is-not f′) =
+      sym (first-refused n 1 t L _ f) ∙ first-refused n 1 t L _ f′
+
+-- A table with a zero diagonal and equal halves.
+module _ (n : ℕ) (count : IsLeafCount n) (t : List ℕ) (table : IsTable n t) where
+  own : List Pair
+  own = own-list n 1 t
+
+  -- demand 3, of our own list of merges
+  either : OneTree n 1 t own ⊎ NoTreeHas n 1 t own
+  unfolding own
+  either = demand-3 n count t table (own-list n 1 t) (own-finished n 1 t (omega (arith, count .0)))
+
+  only-left : OneTree n 1 t own → OnlyTree n t (final-listing n own)
+  only-left one = record {
+    keeps-rules = one .is-a-tree;
+    is-standard = one .is-standard;
+    has-table = one .has-the-table;
+    no-other = one .is-the-only-one;
+  }
+
+  pub rebuilt-means : TableMeans n t (rebuilt n 1 t)
+  rebuilt-means = elim either [
+    | inl one ↦ rw (one .own-rebuild) (the-only-tree (only-left one))
+    | inr several ↦ rw (several .own-rebuild) (no-tree (several .none-has-the-table))
+  ]
+
+  -- every finished list of eligible merges ends in the one tree, or each leaves more than one subtree
+  pub accepted-any-order :
+      (l : List ℕ) → rebuilt n 1 t ≡ accepted l → (L : List Pair) → Finished n 1 t L
+      → (subtrees n (after L) ≡ 1) × (final-listing n L ≡ l)
+  accepted-any-order l e L f = elim either [
+    | inl one ↦
+        let r = one .every-other-list L f in
+        (r .0, r .1 ∙ accepted-same _ l (sym (one .own-rebuild) ∙ e))
+    | inr several ↦ absurd (accepted-not-refused l NoTree (sym e ∙ several .own-rebuild))
+  ]
+
+  pub refused-any-order :
+      rebuilt n 1 t ≡ refused NoTree → (L : List Pair) → Finished n 1 t L → 1 < subtrees n (after L)
+  refused-any-order e L f = elim either [
+    | inl one ↦ absurd (accepted-not-refused _ NoTree (sym (one .own-rebuild) ∙ e))
+    | inr several ↦ several .every-other-list L f
+  ]
+
+  -- n − 1 proposals
+  module _ (L : List Pair) (many : length L ≡ n - 1) where
+    pub guided-as-rebuilt : each-eligible n 1 t L ≡ true → guided n 1 t L ≡ rebuilt n 1 t
+    guided-as-rebuilt e = guided-own n count 1 (omega arith) t table L many e
+
+    pub guided-means : ProposalsMean n t L (guided n 1 t L)
+    guided-means = elim (bool? (each-eligible n 1 t L)) [
+      | inl e ↦
+          let given = guided-accepted n 1 t L e in
+          let only = meant-only n t rebuilt-means (final-listing n L) (sym (guided-as-rebuilt e) ∙ given) in
+          rw given (each-is-eligible e only)
+      | inr f ↦ (let r = guided-refused n 1 t L f in rw (r .2) (one-is-not (r .1)))
+    ]
