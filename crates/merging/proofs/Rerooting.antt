@@ -1,5 +1,6 @@
 -- The tree left by merges, rerooted at leaf 0 ("hung from leaf 0" in 01), in standard order. Rerooting keeps the edges,
--- so it changes no leaf and no pairing. Three subtrees that are all that is left give one tree, however they are merged.
+-- so it changes no leaf and no pairing. Three subtrees that are all that is left give one tree, however
+-- they are merged.
 use mathlib.Core.Path.{_≡_, refl, ap, sym, _∙_}
 use mathlib.Core.Logic.{_⊎_, inl, inr, _≢_}
 use mathlib.Core.Bool.{Bool, true, false, not, _||_, and-false, or-assoc, Bool·not-not}
