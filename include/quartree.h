@@ -168,7 +168,7 @@ static inline const char *quartree_refusal_text(unsigned number)
    - Pointers are aligned for their element type.
    - An output overlaps no input of the same call. Inputs may overlap. An output may hold anything before the call.
    - While a call runs, nobody else writes its inputs, or reads or writes its output.
-   - The stack has QUARTREE_STACK_BYTES left. That is no promise that is proved: every call was measured to take less.
+   - The stack has QUARTREE_STACK_BYTES left. No call takes more; this is measured, and not proved.
 
    ---- What every call promises ---------------------------------------------------------------------------------------
 

@@ -222,7 +222,24 @@ fn name_lengths() {
     say_of_names(sheets::check_sheet(one_more));
 }
 
-// The table of the scope's sheet of five strains.
+// The name of a leaf, or why there is none.
+fn say_name(name: &[u8], answer: Outcome) {
+    let Outcome::Done = answer else {
+        say(answer);
+        return;
+    };
+    io::write_all(1, name);
+    io::write_all(1, b"\n");
+}
+
+// Reads a sheet, and shows the name of a leaf as the bytes of the sheet themselves.
+fn show_name(bytes: &[u8], leaf: usize) {
+    let reading = sheets::read_sheet(bytes);
+    let named = sheet_names::name(reading.sheet, leaf);
+    say_name(named.bytes, named.outcome);
+}
+
+// The scope's sheet of five strains: its table, and names in it.
 fn sheet_of_five() {
     let sheet =
         b"\x01a\x01b\x01c\x01d\x01e\x03\0\x01\0\0\0\0\0\x01\0\0\0\0\0\x01\0\x01\0\x03\0\x05\0\x0A\0\0\0QT";
@@ -239,6 +256,10 @@ fn sheet_of_five() {
     say_whether(cells[14] == 1);
     io::write_all(1, b"0 at (4,4): ");
     say_whether(cells[24] == 0);
+    io::write_all(1, b"the name of leaf 4: ");
+    show_name(sheet, 4);
+    io::write_all(1, b"the name of leaf 5: ");
+    show_name(sheet, 5);
 }
 
 fn main() {
