@@ -45,7 +45,7 @@ fn gap_of_zeros() {
     let listing: [u16; 6] = [3, 4, 2, 5, 1, 6];
     let mut gaps = [0i64; 25];
     io::write_all(1, b"gap of the zero table against 3 4 2 5 1 6: ");
-    say(gaps::gap(5, &zeros, &listing, &mut gaps));
+    say(tree_tables::gap(5, &zeros, &listing, &mut gaps));
     io::write_all(1, b"-3 at (0,1): ");
     say_whether(gaps[1] == -3);
     io::write_all(1, b"0 at (0,3): ");

@@ -29,8 +29,7 @@ use Rattle.listings.proofs.ListingRefusal.{count-right, length-right}
 use Rattle.splits.specs.Operations.{splits-answer}
 use Rattle.table_checks.specs.Operations.{table-refusal}
 use Rattle.table_checks.proofs.TableRefusal.{accepted-table}
-use Rattle.tree_tables.specs.Operations.{table-answer}
-use Rattle.gaps.specs.Operations.{gap-refusal, gap-answer}
+use Rattle.tree_tables.specs.Operations.{table-answer, gap-refusal, gap-answer}
 use Rattle.merging.specs.MergeLists.{Pair, after, each-eligible, subtrees}
 use Rattle.merging.specs.Rebuilds.{result, rebuilt, guided}
 use Rattle.merging.proofs.Rebuilds.{own-list, rebuilt-own, guided-accepted, guided-refused}

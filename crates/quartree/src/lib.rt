@@ -8,8 +8,7 @@ ghost use lib.ListN.{length};
 ghost use Rattle.refusals.specs.Refusals.{figures-of, written};
 ghost use Rattle.listings.specs.Operations.{check-answer, standardise-answer};
 ghost use Rattle.splits.specs.Operations.{splits-answer};
-ghost use Rattle.tree_tables.specs.Operations.{table-answer};
-ghost use Rattle.gaps.specs.Operations.{gap-answer};
+ghost use Rattle.tree_tables.specs.Operations.{table-answer, gap-answer};
 ghost use Rattle.reconstruct.specs.Operations.{rebuild-answer, guided-answer};
 ghost use Rattle.sheets.specs.Sheets.{leaves-of, offset-of, name-start, name};
 ghost use Rattle.sheets.specs.Operations.{check-sheet-answer};
@@ -151,7 +150,7 @@ pub extern "C" fn quartree_gap(n: usize, cells: &[u32], listing: &[u16], out: &m
         ≡ written (gap-answer n (now (cells .entry)) (now (listing .entry)) (length (now (out .entry))))
         (now (out .entry)) ⌝ }
 {
-    reply_of(gaps::gap(n, cells, listing, out))
+    reply_of(tree_tables::gap(n, cells, listing, out))
 }
 
 // Our own rebuild: 1, 2, 3, 4, 5, 6.

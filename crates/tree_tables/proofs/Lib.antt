@@ -1,5 +1,9 @@
-pub mod Painting
-pub mod ListingSizes
-pub mod Joining
-pub mod Spreading
-pub mod Filling
+pub mod Children
+pub mod LeafOrders
+pub mod Hanging
+pub mod Planned
+pub mod HighestLevels
+pub mod RowsFilled
+pub mod Signed
+pub mod Judging
+pub mod GapLaws

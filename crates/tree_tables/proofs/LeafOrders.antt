@@ -1,0 +1,248 @@
+-- Leaves in order: where those of a subtree stand, what branches off above each, and which level lies between two. A
+-- node has a higher level than those under it, so that the highest level between two leaves is that of the node in
+-- which they meet. By it, and by what branches off above the two, the sum along the path between them is found.
+use mathlib.Core.Path.{_≡_, refl, sym, _∙_}
+use mathlib.Core.Logic.{_⊎_, inl, inr, _≢_}
+use mathlib.Core.Bool.{true}
+use mathlib.Core.List.{List}
+use Prim.Native.Nat.{ℕ, _+_, _-_, _≤_, _<_}
+use native.Mathlib.Omega.{arith}
+use native.Mathlib.Decide.{decLt}
+use Rattle.base.proofs.Bools.{or-left, or-right, or-cases}
+use Rattle.pair_counts.specs.Pairs.{P}
+use Rattle.pair_counts.proofs.Pairs.{P-le, P-mono}
+use Rattle.trees.specs.Trees.{Tree, leaf, node, leaves, size}
+use Rattle.trees.proofs.Trees.{leaves-node, leaf-has, leaf-eq, size-node, apart-sym, Distinct, Within}
+use Rattle.trees.proofs.Trees.{within-left, within-right}
+use Rattle.trees.proofs.BranchedPairs.{inner-sum, inner-sum-leaf, inner-sum-left, inner-sum-right}
+use Rattle.trees.proofs.PathSums.{path-sum, path-sum-left, path-sum-right, path-sum-cross}
+use Rattle.tree_tables.specs.Orders.{at, level, Laid, Highest}
+
+-- the size of a leaf
+pub leaf-size : (k : ℕ) → size (leaf k) ≡ 1
+unfolding size
+leaf-size k = refl
+
+module _ (n : ℕ) (place above before : ℕ → ℕ) where
+  -- the leaves of a subtree stand at its places
+  pub place-in :
+      (Z : Tree) (p u w : ℕ) → Laid n place above before Z p u w → (k : ℕ) → leaves Z k ≡ true
+      → (p ≤ place k) × (place k < p + size Z)
+  place-in (leaf x) p u w h k t = rw (leaf-eq k x t, leaf-size x) (omega (arith, h .0), omega (arith, h .0))
+  place-in (node A B) p u w h k t = rw size-node (elim (or-cases (leaves A k) (leaves B k) (rw leaves-node at t)) [
+    | inl a ↦
+        let r = place-in A p (u + P (size B)) w (h .0) k a in
+        (r .0, omega (arith, r .1))
+    | inr b ↦
+        let r = place-in B (p + size A) (u + P (size A)) (level n A B u) (h .1) k b in
+        (omega (arith, r .0), omega (arith, r .1))
+  ])
+
+  -- and at each of its places stands one
+  pub leaf-at :
+      (Z : Tree) (p u w : ℕ) → Laid n place above before Z p u w → (t : ℕ) → p ≤ t → t < p + size Z
+      → (k : ℕ) × (leaves Z k ≡ true) × (place k ≡ t)
+  leaf-at (leaf x) p u w h t lo hi = (x, leaf-has x, omega (arith, h .0, leaf-size x))
+  leaf-at (node A B) p u w h t lo hi = elim (decLt t (p + size A)) [
+    | yes l ↦
+        let r = leaf-at A p (u + P (size B)) w (h .0) t lo l in
+        (r .0, rw leaves-node (or-left _ _ (r .1)), r .2)
+    | no g ↦
+        let r =
+        leaf-at B (p + size A) (u + P (size A)) (level n A B u) (h .1) t (omega arith)
+        (omega (arith, size-node A B)) in
+        (r .0, rw leaves-node (or-right (leaves A (r .0)) _ (r .1)), r .2)
+  ]
+
+  -- two leaves stand at two places
+  pub place-once :
+      (Z : Tree) (p u w : ℕ) → Laid n place above before Z p u w → (j k : ℕ) → leaves Z j ≡ true → leaves Z k ≡ true
+      → place j ≡ place k → j ≡ k
+  place-once (leaf x) p u w h j k tj tk e = leaf-eq j x tj ∙ sym (leaf-eq k x tk)
+  place-once (node A B) p u w h j k tj tk e =
+      elim (or-cases (leaves A j) (leaves B j) (rw leaves-node at tj)) [
+        | inl aj ↦ elim (or-cases (leaves A k) (leaves B k) (rw leaves-node at tk)) [
+          | inl ak ↦ place-once A p (u + P (size B)) w (h .0) j k aj ak e
+          | inr bk ↦ absurd (omega (arith, in-a j aj, in-b k bk))
+        ]
+        | inr bj ↦ elim (or-cases (leaves A k) (leaves B k) (rw leaves-node at tk)) [
+          | inl ak ↦ absurd (omega (arith, in-a k ak, in-b j bj))
+          | inr bk ↦ place-once B (p + size A) (u + P (size A)) (level n A B u) (h .1) j k bj bk e
+        ]
+      ]
+    where
+      in-a : (i : ℕ) → leaves A i ≡ true → place i < p + size A
+      in-a i t = place-in A p (u + P (size B)) w (h .0) i t .1
+
+      in-b : (i : ℕ) → leaves B i ≡ true → p + size A ≤ place i
+      in-b i t = place-in B (p + size A) (u + P (size A)) (level n A B u) (h .1) i t .0
+
+  -- what branches off above a leaf
+  pub above-in :
+      (Z : Tree) (p u w : ℕ) → Laid n place above before Z p u w → Distinct Z → (k : ℕ) → leaves Z k ≡ true
+      → above k ≡ u + inner-sum Z k
+  above-in (leaf x) p u w h d k t = rw (leaf-eq k x t, inner-sum-leaf x x) (omega (arith, h .1))
+  above-in (node A B) p u w h d k t = elim (or-cases (leaves A k) (leaves B k) (rw leaves-node at t)) [
+    | inl a ↦
+        rw (inner-sum-left A B k a (d .2 k a))
+        (omega (arith, above-in A p (u + P (size B)) w (h .0) (d .0) k a))
+    | inr b ↦
+        rw (inner-sum-right A B k (apart-sym A B (d .2) k b) b)
+        (omega (arith, above-in B (p + size A) (u + P (size A)) (level n A B u) (h .1) (d .1) k b))
+  ]
+
+-- the levels before the leaves may be given in another way
+pub laid-same :
+    (n : ℕ) (place above before before′ : ℕ → ℕ) → ((k : ℕ) → k < n → before′ k ≡ before k) → (Z : Tree) (p u w : ℕ)
+    → Within n Z → Laid n place above before Z p u w → Laid n place above before′ Z p u w
+laid-same n place above before before′ e (leaf x) p u w s h = (h .0, h .1, e x (s x (leaf-has x)) ∙ h .2)
+laid-same n place above before before′ e (node A B) p u w s h = (
+  laid-same n place above before before′ e A p (u + P (size B)) w (within-left n A B s) (h .0),
+  laid-same n place above before before′ e B (p + size A) (u + P (size A)) (level n A B u) (within-right n A B s)
+      (h .1),
+)
+
+-- Levels: `top` is the highest that a node can have over s leaves.
+unfoldable top : (n s u : ℕ) → ℕ
+top n s u = u + u + P s + (P n - P (n - s))
+
+level-le : (n : ℕ) (A B : Tree) (u : ℕ) → level n A B u ≤ top n (size (node A B)) u
+unfolding level top
+level-le n A B u = rw size-node (omega (arith, P-le (size A) (size B)))
+
+first-le :
+    (n : ℕ) (A B : Tree) (u : ℕ) → size A + size B ≤ n → top n (size A) (u + P (size B)) ≤ level n A B u
+unfolding level top
+first-le n A B u l =
+    let e : n - (size A + size B) + size B ≡ n - size A = omega arith in
+    omega (
+      arith,
+      rw e at (P-le (n - (size A + size B)) (size B)),
+      P-mono (n - size A) n (omega arith),
+      P-mono (n - (size A + size B)) n (omega arith),
+    )
+
+second-le :
+    (n : ℕ) (A B : Tree) (u : ℕ) → size A + size B ≤ n → top n (size B) (u + P (size A)) ≤ level n A B u
+unfolding level top
+second-le n A B u l =
+    let e : n - (size A + size B) + size A ≡ n - size B = omega arith in
+    omega (
+      arith,
+      rw e at (P-le (n - (size A + size B)) (size A)),
+      P-mono (n - size B) n (omega arith),
+      P-mono (n - (size A + size B)) n (omega arith),
+    )
+
+module _ (n : ℕ) (place above : ℕ → ℕ) (levels : List ℕ) where
+  -- the levels are those before the places
+  abbrev Ordered : Tree → ℕ → ℕ → ℕ → Type 0
+  Ordered Z p u w = Laid n place above (λ k. at levels (place k)) Z p u w
+
+  -- the level before the first leaf
+  first-level : (Z : Tree) (p u w : ℕ) → Ordered Z p u w → at levels p ≡ w
+  first-level (leaf x) p u w h = rw (h .0) at (h .2)
+  first-level (node A B) p u w h = first-level A p (u + P (size B)) w (h .0)
+
+  -- the levels within a node, from those within its children
+  Inside : Tree → ℕ → ℕ → Type 0
+  Inside Z p u = (t : ℕ) → p < t → t < p + size Z → at levels t ≤ top n (size Z) u
+
+  within-node :
+      (A B : Tree) (p u w : ℕ) → Ordered (node A B) p u w → size A + size B ≤ n → Inside A p (u + P (size B))
+      → Inside B (p + size A) (u + P (size A)) → (t : ℕ) → p < t → t < p + (size A + size B)
+      → at levels t ≤ level n A B u
+  unfolding Inside
+  within-node A B p u w h l ia ib t lo hi = elim (decLt t (p + size A)) [
+    | yes a ↦ omega (arith, ia t lo a, first-le n A B u l)
+    | no g ↦ elim (decLt (p + size A) t) [
+      | yes b ↦ omega (arith, ib t b (omega arith), second-le n A B u l)
+      | no e ↦
+          let here : t ≡ p + size A = omega arith in
+          rw here (omega (arith, first-level B (p + size A) (u + P (size A)) (level n A B u) (h .1)))
+    ]
+  ]
+
+  inside : (Z : Tree) (p u w : ℕ) → Ordered Z p u w → size Z ≤ n → Inside Z p u
+  unfolding Inside
+  inside (leaf x) p u w h l t lo hi = absurd (omega (arith, leaf-size x))
+  inside (node A B) p u w h l t lo hi =
+      let sum = size-node A B in
+      let ia = inside A p (u + P (size B)) w (h .0) (omega (arith, sum)) in
+      let ib = inside B (p + size A) (u + P (size A)) (level n A B u) (h .1) (omega (arith, sum)) in
+      let here = within-node A B p u w h (omega (arith, sum)) ia ib t lo (omega (arith, sum)) in
+      omega (arith, here, level-le n A B u)
+
+  -- i stands before j, and the highest level between them tells the sum along the path from i to j
+  pub record Meets (Z : Tree) (i j : ℕ) : Type 0 where
+    pub in-order : place i < place j
+    pub sum : (m : ℕ) → Highest levels (place i) (place j) m → P n + (above i + above j) ≡ path-sum n Z i j + m
+
+  -- two leaves that meet in a node
+  crossing :
+      (A B : Tree) (p u w : ℕ) → Ordered (node A B) p u w → Distinct (node A B) → size A + size B ≤ n → (i j : ℕ)
+      → leaves A i ≡ true → leaves B j ≡ true → Meets (node A B) i j
+  crossing A B p u w h d l i j a b = record {
+    in-order = omega (arith, pi .1, pj .0);
+    sum = λ m top-is.
+        let high : level n A B u ≤ m =
+        rw (first-level B (p + size A) (u + P (size A)) (level n A B u) (h .1))
+        at (top-is .bound (p + size A) (pi .1) (pj .0)) in
+        let low : m ≤ level n A B u =
+        top-is .least (level n A B u) (λ t lo hi. all t (omega (arith, pi .0)) (omega (arith, pj .1))) in
+        rw (path-sum-cross n A B i j (d .2) a b) (unfold level in omega (arith, high, low, above-i, above-j, rest));
+  }
+    where
+      pi : (p ≤ place i) × (place i < p + size A)
+      pi = place-in n place above (λ k. at levels (place k)) A p (u + P (size B)) w (h .0) i a
+
+      pj : (p + size A ≤ place j) × (place j < p + size A + size B)
+      pj = place-in n place above (λ k. at levels (place k)) B (p + size A) (u + P (size A)) (level n A B u) (h .1) j b
+
+      above-i : above i ≡ u + P (size B) + inner-sum A i
+      above-i = above-in n place above (λ k. at levels (place k)) A p (u + P (size B)) w (h .0) (d .0) i a
+
+      above-j : above j ≡ u + P (size A) + inner-sum B j
+      above-j =
+          above-in n place above (λ k. at levels (place k)) B (p + size A) (u + P (size A)) (level n A B u) (h .1)
+          (d .1) j b
+
+      rest : P (n - (size A + size B)) ≤ P n
+      rest = P-mono (n - (size A + size B)) n (omega arith)
+
+      all : (t : ℕ) → p < t → t < p + (size A + size B) → at levels t ≤ level n A B u
+      all =
+          within-node A B p u w h l (inside A p (u + P (size B)) w (h .0) (omega arith))
+          (inside B (p + size A) (u + P (size A)) (level n A B u) (h .1) (omega arith))
+
+  -- any two leaves of a tree, in one order or the other
+  pub meets :
+      (Z : Tree) (p u w : ℕ) → Ordered Z p u w → Distinct Z → size Z ≤ n → (i j : ℕ) → leaves Z i ≡ true
+      → leaves Z j ≡ true → i ≢ j → Meets Z i j ⊎ Meets Z j i
+  meets (leaf x) p u w h d l i j ti tj e = absurd (e (leaf-eq i x ti ∙ sym (leaf-eq j x tj)))
+  meets (node A B) p u w h d l i j ti tj e =
+      elim (or-cases (leaves A i) (leaves B i) (rw leaves-node at ti)) [
+        | inl ai ↦ elim (or-cases (leaves A j) (leaves B j) (rw leaves-node at tj)) [
+          | inl aj ↦
+              within (λ x y ax ay. path-sum-left n A B x y ax ay) ai aj
+              (meets A p (u + P (size B)) w (h .0) (d .0) (omega (arith, size-node A B)) i j ai aj e)
+          | inr bj ↦ inl (crossing A B p u w h d (omega (arith, size-node A B)) i j ai bj)
+        ]
+        | inr bi ↦ elim (or-cases (leaves A j) (leaves B j) (rw leaves-node at tj)) [
+          | inl aj ↦ inr (crossing A B p u w h d (omega (arith, size-node A B)) j i aj bi)
+          | inr bj ↦
+              within (λ x y bx by. path-sum-right n A B x y (apart-sym A B (d .2) x bx) bx by) bi bj
+              (meets B (p + size A) (u + P (size A)) (level n A B u) (h .1) (d .1) (omega (arith, size-node A B)) i j
+              bi bj e)
+        ]
+      ]
+    where
+      within :
+          {X : Tree}
+          → ((x y : ℕ) → leaves X x ≡ true → leaves X y ≡ true → path-sum n (node A B) x y ≡ path-sum n X x y)
+          → leaves X i ≡ true → leaves X j ≡ true → Meets X i j ⊎ Meets X j i
+          → Meets (node A B) i j ⊎ Meets (node A B) j i
+      within same xi xj (inl m) =
+          inl (record { in-order = m .in-order; sum = λ t q. rw (same i j xi xj) (m .sum t q) })
+      within same xi xj (inr m) =
+          inr (record { in-order = m .in-order; sum = λ t q. rw (same j i xj xi) (m .sum t q) })

@@ -1,0 +1,111 @@
+-- `counts::fills::fill_table` meets its contract: the rows before i are written.
+use mathlib.Core.Path.{_≡_, refl}
+use mathlib.Core.List.{List}
+use Prim.Native.Nat.{ℕ, _+_, _-_, _*_, _/_, _%_, _≤_}
+use lib.ListN.{length}
+use Rattle.base.specs.Lists.{filled}
+use Rattle.limits.specs.Limits.{most-leaves}
+use Rattle.trees.specs.Listings.{tree-of}
+use Rattle.trees.specs.Quartets.{quartets}
+use Rattle.trees.specs.Tables.{table-of}
+use Rattle.tree_tables.proofs.RowsFilled.{rows-none, rows-room, rows-more, rows-all}
+use Rattle.tree_tables.proofs.Planned.{row-asked, cell-is, row-fits}
+use native.Mathlib.Omega.{arith}
+use borrow.Author.Needs.{needs}
+use Rattle.tree_tables.proofs.fills.fill_table.Statement.{statement}
+use Rattle.tree_tables.proofs.fills.fill_table.Tie as tie
+
+-- the cells of the table, one after the other
+abbrev cell-at : ℕ → List ℕ → ℕ → ℕ
+cell-at n l k = quartets n (tree-of n l) (k / n) (k % n)
+
+abbrev Inv-loop : tie.InvT-loop
+Inv-loop n listing out₀ places aboves order levels tops₀ all i₀ out tops i =
+    (i ≤ n) × (length tops ≡ most-leaves)
+    × (out ≡ filled (i * n) (cell-at n listing) out₀)
+
+abbrev μ-loop : tie.MeasureT-loop
+μ-loop n listing out₀ places aboves order levels tops₀ all i₀ out tops i = n - i
+
+plan-requires : tie.Need-plan-requires Inv-loop μ-loop
+plan-requires c κs =
+    let p = c .before .before .before .before .before .before .pre in (p .0, p .1, refl, refl, refl, refl)
+
+loop-holds : tie.Need-loop-holds Inv-loop μ-loop
+loop-holds c = (
+  omega arith,
+  refl,
+  rows-none
+      (cell-at (c .before .before .before .before .before .before .before .args .n)
+      (c .before .before .before .before .before .before .before .args .listing .now)) _ _,
+)
+
+find-row-requires : tie.Need-find-row-requires Inv-loop μ-loop
+find-row-requires c κs =
+    let s = c .before .before .before .before .before .before .before .before .before .before .before .before .before
+    .before in
+    let made = c .before .before .before .before .before .before .before .plan .ensures in
+    let i = c .before .before .before .before .before .before .loop in
+    row-asked _ _ (s .pre .0) (s .pre .1) (made .1) (i .tops) (made .0) (omega arith) (i .inv .1)
+
+write-row-requires : tie.Need-write-row-requires Inv-loop μ-loop
+write-row-requires c κs =
+    let s = c .before .before .before .before .before .before .before .before .before .before .before .before .before
+    .before .before .before .before .before in
+    let made = c .before .before .before .before .before .before .before .before .before .before .before .plan .ensures
+    in
+    let i = c .before .before .before .before .before .before .before .before .before .before .loop in
+    let found = c .before .before .before .find-row .ensures in
+    let long = rows-room (cell-at (s .args .n) (s .args .listing .now)) _ (s .args .n) (i .i) (i .inv .0) (s .pre .2)
+    (i .inv .2) in
+    row-fits _ _ (s .pre .0) (s .pre .1) (made .1) (omega arith) (made .0) (found .0) (found .1) _
+    (omega (arith, s .pre .2, long))
+
+add-i : tie.Need-add-i Inv-loop μ-loop
+add-i c = search needs
+
+loop-less : tie.Need-loop-less Inv-loop μ-loop
+loop-less c = search needs
+
+loop-again : tie.Need-loop-again Inv-loop μ-loop
+loop-again c =
+    let s = c .before .before .before .before .before .before .before .before .before .before .before .before .before
+    .before .before .before .before .before .before .before .before in
+    let made = c .before .before .before .before .before .before .before .before .before .before .before .before .before
+    .before .plan .ensures in
+    let i = c .before .before .before .before .before .before .before .before .before .before .before .before .before
+    .loop in
+    let found = c .before .before .before .before .before .before .find-row .ensures in
+    let cell = cell-is _ _ (s .pre .0) (s .pre .1) (made .1) (omega arith) (made .0) (found .0) (found .1) in
+    let next = c .before .before .write-row .ensures (cell-at (s .args .n) (s .args .listing .now)) _ cell
+    (i .inv .2) in
+    (omega arith, found .1 .long, rows-more (cell-at (s .args .n) (s .args .listing .now)) _ (s .args .n) (i .i) next)
+
+same-length : tie.Need-same-length Inv-loop μ-loop
+same-length c =
+    let s = c .before .before .before .before .before .before .before .before .before in
+    let i = c .before .loop in
+    rows-room (cell-at (s .args .n) (s .args .listing .now)) _ (s .args .n) (i .i) (i .inv .0) (s .pre .2) (i .inv .2)
+
+returns : tie.Need-returns Inv-loop μ-loop
+unfolding table-of
+returns c =
+    let s = c .before .before .before .before .before .before .before .before .before in
+    let i = c .before .loop in
+    rows-all (cell-at (s .args .n) (s .args .listing .now)) _ (s .args .n) (i .i) (omega arith) (i .inv .2)
+
+pub fill-table-spec : {M : Type 1} → statement M
+fill-table-spec =
+    tie.close
+    (tie.spec
+    Inv-loop
+    μ-loop
+    plan-requires
+    loop-holds
+    find-row-requires
+    write-row-requires
+    add-i
+    loop-less
+    loop-again
+    same-length
+    returns)

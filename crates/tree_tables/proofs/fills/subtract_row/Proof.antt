@@ -1,0 +1,124 @@
+use Rattle.base.proofs.Lists.{place}
+use native.Mathlib.Nat.{add-zero}
+use mir.Syntax.{w64}
+use mir.Facts.{toZ-ofZ}
+use Rattle.tree_tables.proofs.RowsFilled.{cell-place, cell-more}
+-- `counts::fills::subtract_row` meets its contract: the rows before i and j gaps of row i are written.
+use mathlib.Core.Path.{_≡_, refl, sym, _∙_}
+use mathlib.Core.List.{List}
+use Prim.Native.Nat.{ℕ, _+_, _-_, _*_, _≤_, _<_}
+use lib.IntN.{ℤ, pos, _-ℤ_}
+use lib.ListN.{length, length-set, getD}
+use Rattle.base.specs.Lists.{filled}
+use Rattle.tree_tables.specs.Orders.{cell-of}
+use native.Mathlib.Omega.{arith}
+use borrow.Author.Needs.{needs}
+use Rattle.tree_tables.proofs.fills.subtract_row.Statement.{statement}
+use Rattle.tree_tables.proofs.fills.subtract_row.Tie as tie
+
+abbrev Inv-loop : tie.InvT-loop
+Inv-loop n i base aboves tops cells out₀ j₀ out j =
+    (j ≤ n) × (length out ≡ length out₀)
+    × ((f : ℕ → ℤ) (l : List ℤ)
+    → ((k : ℕ) → k < n → f (i * n + k) ≡ pos (getD cells (i * n + k) 0) -ℤ pos (cell-of base aboves tops k))
+    → out₀ ≡ filled (i * n) f l → out ≡ filled (i * n + j) f l)
+
+abbrev μ-loop : tie.MeasureT-loop
+μ-loop n i base aboves tops cells out₀ j₀ out j = n - j
+
+loop-holds : tie.Need-loop-holds Inv-loop μ-loop
+loop-holds c = (search needs, refl, λ f l h e. rw add-zero e)
+
+mul-k : tie.Need-mul-k Inv-loop μ-loop
+mul-k c = omega (arith, cell-place (c .before .before .before .pre .0) (c .before .loop .j) (omega arith) .0)
+
+add-k : tie.Need-add-k Inv-loop μ-loop
+add-k c = omega (arith, cell-place (c .before .before .before .pre .0) (c .before .loop .j) (omega arith) .0)
+
+mul-less : tie.Need-mul-less Inv-loop μ-loop
+mul-less c = omega (arith, cell-place (c .before .before .before .pre .0) (c .before .loop .j) (omega arith) .0)
+
+shared-slice-read-less : tie.Need-shared-slice-read-less Inv-loop μ-loop
+shared-slice-read-less c =
+    let s = c .before .before .before .before in
+    omega (
+      arith,
+      place (s .args .n) (s .args .i) (c .before .before .loop .j) (s .pre .0 .row) (omega arith),
+      s .pre .1,
+    )
+
+count-at-requires : tie.Need-count-at-requires Inv-loop μ-loop
+count-at-requires c κs =
+    let fit = c .before .before .before .before .pre .0 in
+    let j = c .before .before .loop .j in
+    (omega (arith, fit .few), fit .covered j (omega arith), fit .fits j (omega arith))
+
+less-requires : tie.Need-less-requires Inv-loop μ-loop
+less-requires c κs = search needs
+
+mul-t16 : tie.Need-mul-t16 Inv-loop μ-loop
+mul-t16 c =
+    omega (
+      arith,
+      cell-place (c .before .before .before .before .before .before .pre .0)
+          (c .before .before .before .before .loop .j) (omega arith) .0,
+    )
+
+slice-set-from-out : tie.Need-slice-set-from-out Inv-loop μ-loop
+slice-set-from-out c =
+    omega (
+      arith,
+      cell-place (c .before .before .before .before .before .before .pre .0)
+          (c .before .before .before .before .loop .j) (omega arith) .1,
+      c .before .before .before .before .loop .inv .1,
+    )
+
+add-j : tie.Need-add-j Inv-loop μ-loop
+add-j c = search needs
+
+loop-less : tie.Need-loop-less Inv-loop μ-loop
+loop-less c = search needs
+
+loop-again : tie.Need-loop-again Inv-loop μ-loop
+loop-again c =
+    let s = c .before .before .before .before .before .before in
+    let a = s .args in
+    let i = c .before .before .before .before .loop in
+    let exact = toZ-ofZ {w = w64} {z = c .less .result} (record { sfits = c .less .ok }) in
+    let room = cell-place (s .pre .0) (i .j) (omega arith) .1 in (
+      omega arith,
+      simp length-set (i .inv .1),
+      λ f l h e.
+          cell-more f l (a .i * a .n) (i .j) e room (i .inv .2 f l h e)
+          (exact ∙ c .less .ensures ∙ rw (c .before .count-at .ensures) (sym (h (i .j) (omega arith)))),
+    )
+
+same-length : tie.Need-same-length Inv-loop μ-loop
+same-length c = search needs
+
+returns : tie.Need-returns Inv-loop μ-loop
+returns c = λ f l h e.
+    let i = c .before .loop in
+    let end : i .j ≡ c .before .before .before .args .n = omega arith in
+    rw end at (i .inv .2 f l h e)
+
+pub subtract-row-spec : {M : Type 1} → statement M
+subtract-row-spec =
+    tie.close
+    (tie.spec
+    Inv-loop
+    μ-loop
+    loop-holds
+    mul-k
+    add-k
+    mul-less
+    shared-slice-read-less
+    count-at-requires
+    less-requires
+    mul-t16
+    slice-set-from-out
+    add-j
+    loop-less
+    loop-again
+    same-length
+    returns)

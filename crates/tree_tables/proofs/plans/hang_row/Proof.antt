@@ -1,0 +1,184 @@
+-- `counts::plans::hang_row` meets its contract: what the two children are given is what the row asks.
+use mathlib.Core.Path.{_∙_}
+use Prim.Native.Nat.{_+_, _-_, _*_, _≤_}
+use lib.ListN.{length-set}
+use Rattle.tree_tables.specs.Orders.{most-sum}
+use Rattle.tree_tables.proofs.Hanging.{Next, first-below, second-below, few, in-place, pairs-first, pairs-second}
+use Rattle.tree_tables.proofs.Hanging.{pairs-all, pairs-rest, rest-le, level-small, hung-row}
+use native.Mathlib.Omega.{arith}
+use borrow.Author.Needs.{needs}
+use Rattle.tree_tables.proofs.plans.hang_row.Statement.{statement}
+use Rattle.tree_tables.proofs.plans.hang_row.Tie as tie
+
+-- the children are read
+next :
+    (c : tie.After-child2)
+    → (let a = c .before .before .before .args in
+    Next (a .n) (a .listing .now) (a .sizes .now) (a .counts .now) (a .places .now) (a .aboves .now) (a .befores .now)
+    (a .c) (c .before .child .result) (c .child2 .result))
+next c =
+    let p = c .before .before .before .pre in
+    record {
+      asked = p .0;
+      low = p .1;
+      high = p .2;
+      hung = p .3;
+      first = c .before .child .ensures;
+      second = c .child2 .ensures;
+    }
+
+sub-k : tie.Need-sub-k
+sub-k c = search needs
+
+mul-k : tie.Need-mul-k
+mul-k c = search needs
+
+child-requires : tie.Need-child-requires
+child-requires c κs = search needs
+
+add-child : tie.Need-add-child
+add-child c = search needs
+
+child-requires-2 : tie.Need-child-requires-2
+child-requires-2 c κs = search needs
+
+mul-x : tie.Need-mul-x
+mul-x c = let f = next c in omega (arith, first-below f, few f)
+
+element-copy-out-x : tie.Need-element-copy-out-x
+element-copy-out-x c = let f = next c in omega (arith, first-below f, few f)
+
+mul-y : tie.Need-mul-y
+mul-y c = let f = next (c .before) in omega (arith, second-below f, few f)
+
+element-copy-out-y : tie.Need-element-copy-out-y
+element-copy-out-y c = let f = next (c .before) in omega (arith, second-below f, few f)
+
+mul-p : tie.Need-mul-p
+mul-p c = search needs
+
+element-copy-out-p : tie.Need-element-copy-out-p
+element-copy-out-p c = search needs
+
+mul-above : tie.Need-mul-above
+mul-above c = search needs
+
+element-copy-out-above : tie.Need-element-copy-out-above
+element-copy-out-above c = search needs
+
+mul-before : tie.Need-mul-before
+mul-before c = search needs
+
+element-copy-out-before : tie.Need-element-copy-out-before
+element-copy-out-before c = search needs
+
+with-pairs-requires : tie.Need-with-pairs-requires
+with-pairs-requires c κs = pairs-first (next (c .before .before .before .before .before))
+
+with-pairs-requires-2 : tie.Need-with-pairs-requires-2
+with-pairs-requires-2 c κs = pairs-second (next (c .before .before .before .before .before .before))
+
+with-pairs-requires-3 : tie.Need-with-pairs-requires-3
+with-pairs-requires-3 c κs = pairs-all (next (c .before .before .before .before .before .before .before))
+
+add-with-pairs : tie.Need-add-with-pairs
+add-with-pairs c =
+    let f = next (c .before .before .before .before .before .before .before .before) in
+    omega (arith, in-place f, f .asked .leaf-count .1)
+
+sub-with-pairs : tie.Need-sub-with-pairs
+sub-with-pairs c =
+    let f = next (c .before .before .before .before .before .before .before .before) in omega (arith, in-place f)
+
+with-pairs-requires-4 : tie.Need-with-pairs-requires-4
+with-pairs-requires-4 c κs = pairs-rest (next (c .before .before .before .before .before .before .before .before))
+
+-- the level fits
+small :
+    (c : tie.After-with-pairs4)
+    → (let all = c .before .with-pairs3 .result in
+    c .before .before .before .with-pairs .result + c .before .before .with-pairs2 .result
+    + (all - c .with-pairs4 .result)
+    ≤ 3 * most-sum)
+small c =
+    level-small (next (c .before .before .before .before .before .before .before .before .before))
+    (c .before .before .before .with-pairs .ensures) (c .before .before .with-pairs2 .ensures)
+    (c .before .with-pairs3 .ensures) (c .with-pairs4 .ensures)
+
+add-level : tie.Need-add-level
+add-level c = omega (arith, small c)
+
+sub-level : tie.Need-sub-level
+sub-level c =
+    rest-le (next (c .before .before .before .before .before .before .before .before .before))
+    (c .before .before .before .with-pairs .ensures) (c .before .before .with-pairs2 .ensures)
+    (c .before .with-pairs3 .ensures)
+    (c .with-pairs4 .ensures)
+
+add-level-2 : tie.Need-add-level-2
+add-level-2 c = omega (arith, small c)
+
+place-leaf-requires : tie.Need-place-leaf-requires
+place-leaf-requires c κs =
+    let f = next (c .before .before .before .before .before .before .before .before .before .before .before .before) in
+    (omega (arith, first-below f, few f), f .hung .places-long, f .hung .aboves-long, f .hung .befores-long)
+
+add-place-leaf : tie.Need-add-place-leaf
+add-place-leaf c =
+    let f = next (c .before .before .before .before .before .before .before .before .before .before .before .before
+    .before) in omega (arith, in-place f, f .asked .leaf-count .1)
+
+place-leaf-requires-2 : tie.Need-place-leaf-requires-2
+place-leaf-requires-2 c κs =
+    let f = next (c .before .before .before .before .before .before .before .before .before .before .before .before
+    .before .before .before .before) in
+    let s = c .before .before .before .place-leaf .ensures in (
+      omega (arith, second-below f, few f),
+      rw (s .0, length-set) (f .hung .places-long),
+      rw (s .1, length-set) (f .hung .aboves-long),
+      rw (s .2, length-set) (f .hung .befores-long),
+    )
+
+returns : tie.Need-returns
+returns c =
+    let s = c .before .before .before .before .place-leaf .ensures in
+    let t = c .place-leaf2 .ensures in
+    let p = c .before .before .before .before .before .before .before .before in
+    rw (t .0, t .1, t .2, s .0, s .1, s .2)
+    (hung-row (next (c .before .before .before .before .before .before .before .before .before .before .before .before
+    .before .before .before .before .before)) (p .before .before .before .with-pairs .ensures)
+    (p .before .before .with-pairs2 .ensures) (p .before .with-pairs3 .ensures)
+    (p .with-pairs4 .ensures))
+
+pub hang-row-spec : {M : Type 1} → statement M
+hang-row-spec =
+    tie.close
+    (tie.spec
+    sub-k
+    mul-k
+    child-requires
+    add-child
+    child-requires-2
+    mul-x
+    element-copy-out-x
+    mul-y
+    element-copy-out-y
+    mul-p
+    element-copy-out-p
+    mul-above
+    element-copy-out-above
+    mul-before
+    element-copy-out-before
+    with-pairs-requires
+    with-pairs-requires-2
+    with-pairs-requires-3
+    add-with-pairs
+    sub-with-pairs
+    with-pairs-requires-4
+    add-level
+    sub-level
+    add-level-2
+    place-leaf-requires
+    add-place-leaf
+    place-leaf-requires-2
+    returns)

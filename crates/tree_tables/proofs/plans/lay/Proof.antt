@@ -1,0 +1,94 @@
+use Rattle.tree_tables.proofs.Planned.{placed-more}
+-- `counts::plans::lay` meets its contract: the leaves below j stand at their places, which no other leaf has.
+use mathlib.Core.Path.{_≡_, _∙_}
+use Prim.Native.Nat.{_-_, _≤_}
+use lib.ListN.{length, length-set}
+use Rattle.limits.specs.Limits.{most-leaves}
+use Rattle.tree_tables.specs.Orders.{at, Placed}
+use native.Mathlib.Omega.{arith}
+use borrow.Author.Needs.{needs}
+use Rattle.tree_tables.proofs.plans.lay.Statement.{statement}
+use Rattle.tree_tables.proofs.plans.lay.Tie as tie
+
+abbrev Inv-loop : tie.InvT-loop
+Inv-loop n places befores order₀ levels₀ j₀ order levels j =
+    (j ≤ n) × (length order ≡ most-leaves) × (length levels ≡ most-leaves) × Placed n places befores order levels j
+
+abbrev μ-loop : tie.MeasureT-loop
+μ-loop n places befores order₀ levels₀ j₀ order levels j = n - j
+
+loop-holds : tie.Need-loop-holds Inv-loop μ-loop
+loop-holds c = search needs
+
+mul-p : tie.Need-mul-p Inv-loop μ-loop
+mul-p c = search needs
+
+element-copy-out-p : tie.Need-element-copy-out-p Inv-loop μ-loop
+element-copy-out-p c = search needs
+
+mul-order : tie.Need-mul-order Inv-loop μ-loop
+mul-order c =
+    let own = c .before .before .before .pre .0 in
+    omega (arith, own .inside (c .before .before .loop .j) (omega arith), own .few)
+
+element-write-order : tie.Need-element-write-order Inv-loop μ-loop
+element-write-order c =
+    let own = c .before .before .before .pre .0 in
+    omega (arith, own .inside (c .before .before .loop .j) (omega arith), own .few)
+
+mul-levels : tie.Need-mul-levels Inv-loop μ-loop
+mul-levels c = search needs
+
+element-copy-out-levels : tie.Need-element-copy-out-levels Inv-loop μ-loop
+element-copy-out-levels c = search needs
+
+mul-levels-2 : tie.Need-mul-levels-2 Inv-loop μ-loop
+mul-levels-2 c =
+    let own = c .before .before .before .before .pre .0 in
+    omega (arith, own .inside (c .before .before .before .loop .j) (omega arith), own .few)
+
+element-write-levels : tie.Need-element-write-levels Inv-loop μ-loop
+element-write-levels c =
+    let own = c .before .before .before .before .pre .0 in
+    omega (arith, own .inside (c .before .before .before .loop .j) (omega arith), own .few)
+
+add-j : tie.Need-add-j Inv-loop μ-loop
+add-j c = search needs
+
+loop-less : tie.Need-loop-less Inv-loop μ-loop
+loop-less c = search needs
+
+loop-again : tie.Need-loop-again Inv-loop μ-loop
+loop-again c =
+    let i = c .before .before .before .loop in
+    let s = c .before .before .before .before in
+    let a = s .args in (
+      omega arith,
+      length-set (i .order) (at (a .places .now) (i .j)) (i .j) ∙ i .inv .1,
+      length-set (i .levels) (at (a .places .now) (i .j)) (at (a .befores .now) (i .j)) ∙ i .inv .2,
+      placed-more (a .n) (a .places .now) (a .befores .now) (i .order) (i .levels) (i .j) (s .pre .0) (omega arith)
+          (i .inv .1) (i .inv .2) (i .inv .3),
+    )
+
+returns : tie.Need-returns Inv-loop μ-loop
+returns c = λ k h. c .before .loop .inv .3 k (omega arith)
+
+pub lay-spec : {M : Type 1} → statement M
+lay-spec =
+    tie.close
+    (tie.spec
+    Inv-loop
+    μ-loop
+    loop-holds
+    mul-p
+    element-copy-out-p
+    mul-order
+    element-write-order
+    mul-levels
+    element-copy-out-levels
+    mul-levels-2
+    element-write-levels
+    add-j
+    loop-less
+    loop-again
+    returns)

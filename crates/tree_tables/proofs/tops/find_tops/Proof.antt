@@ -1,0 +1,48 @@
+use Rattle.tree_tables.proofs.HighestLevels.{topped}
+use native.Mathlib.Omega.{arith}
+use borrow.Author.Needs.{needs}
+use Rattle.tree_tables.proofs.tops.find_tops.Statement.{statement}
+use Rattle.tree_tables.proofs.tops.find_tops.Tie as tie
+
+rightwards-requires : tie.Need-rightwards-requires
+rightwards-requires c κs = search needs
+
+leftwards-requires : tie.Need-leftwards-requires
+leftwards-requires c κs = search needs
+
+mul-i : tie.Need-mul-i
+mul-i c = search needs
+
+element-copy-out-i : tie.Need-element-copy-out-i
+element-copy-out-i c = search needs
+
+mul-tops : tie.Need-mul-tops
+mul-tops c =
+    let s = c .before .before .before .before .before in
+    omega (arith, s .pre .0 .below (s .args .p) (s .pre .1), s .pre .0 .few)
+
+element-write-tops : tie.Need-element-write-tops
+element-write-tops c =
+    let s = c .before .before .before .before .before in
+    omega (arith, s .pre .0 .below (s .args .p) (s .pre .1), s .pre .0 .few)
+
+returns : tie.Need-returns
+returns c =
+    let s = c .before .before .before .before .before in
+    let left = c .before .leftwards .ensures in
+    topped (s .args .n) (s .args .order .now) (s .args .levels .now)
+    (c .before .before .before .rightwards .last .1 .1 .1 .1 .0) (c .before .leftwards .last .1 .1 .1 .1 .0)
+    (s .args .p) (s .args .own) (s .pre .0) (s .pre .1) (left .0) (c .before .before .before .rightwards .ensures .1)
+    (left .1) (left .2)
+
+pub find-tops-spec : {M : Type 1} → statement M
+find-tops-spec =
+    tie.close
+    (tie.spec
+    rightwards-requires
+    leftwards-requires
+    mul-i
+    element-copy-out-i
+    mul-tops
+    element-write-tops
+    returns)

@@ -1,0 +1,127 @@
+-- What the functions that write a tree's table promise to each other. No public contract cites it.
+-- The leaves stand in an order in which those of each subtree follow one another. Between two neighbours lies the level
+-- of the node in which they meet. A node has a higher level than those under it, so that of any two leaves the node in
+-- which they meet has the highest level between them; their count is found from that level and from two sums.
+use mathlib.Core.Path.{_≡_}
+use mathlib.Core.List.{List}
+use Prim.Native.Nat.{ℕ, _+_, _-_, _*_, _≤_, _<_}
+use lib.ListN.{length, getD}
+use Rattle.base.specs.Lists.{tab}
+use Rattle.limits.specs.Limits.{most-leaves, IsLeafCount}
+use Rattle.pair_counts.specs.Pairs.{P}
+use Rattle.trees.specs.Trees.{Tree, leaf, node, size}
+use Rattle.trees.specs.Listings.{KeepsRules, subtree-at}
+
+-- a listing has fewer numbers than this, and no sum of pairs that branch off is larger than that
+abbrev pub most-numbers : ℕ
+most-numbers = 2 * most-leaves
+
+abbrev pub most-sum : ℕ
+most-sum = most-leaves * most-leaves
+
+-- the two children of number c
+abbrev pub row-first : ℕ → List ℕ → ℕ → ℕ
+row-first n l c = getD l (2 * (c - n)) 0
+
+abbrev pub row-second : ℕ → List ℕ → ℕ → ℕ
+row-second n l c = getD l (2 * (c - n) + 1) 0
+
+-- the number of leaves under each number of a listing
+abbrev pub Sized : ℕ → List ℕ → List ℕ → Type 0
+Sized n l sizes = (c : ℕ) → c < 2 * n - 2 → getD sizes c 0 ≡ size (subtree-at n l c)
+
+-- a listing that keeps the rules, the size under each of its numbers, and the pair counts
+pub record Prepared (n : ℕ) (l sizes counts : List ℕ) : Type 0 where
+  pub leaf-count : IsLeafCount n
+  pub listing : KeepsRules n l
+  pub sized : Sized n l sizes
+  pub counted : counts ≡ tab (most-leaves + 1) P
+
+-- the level of a node over A and B, `above` being the number of pairs that branch off on the way down to it: what
+-- branches off on the way to A and to B, and the pairs of which a leaf is in A or B
+unfoldable pub level : (n : ℕ) (A B : Tree) (above : ℕ) → ℕ
+level n A B above = (above + P (size B)) + (above + P (size A)) + (P n - P (n - (size A + size B)))
+
+-- a number's place, the pairs that branch off above it, and the level before its first leaf are p, u and w
+abbrev pub Stands : (place above before : ℕ → ℕ) (c p u w : ℕ) → Type 0
+Stands place above before c p u w = (place c ≡ p) × (above c ≡ u) × (before c ≡ w)
+
+-- the leaves of a subtree follow one another from place p on
+abbrev pub Laid : (n : ℕ) (place above before : ℕ → ℕ) → Tree → (p u w : ℕ) → Type 0
+Laid n place above before (leaf k) p u w = Stands place above before k p u w
+Laid n place above before (node A B) p u w =
+    Laid n place above before A p (u + P (size B)) w
+    × Laid n place above before B (p + size A) (u + P (size A)) (level n A B u)
+
+-- the entries of an array
+abbrev pub at : List ℕ → ℕ → ℕ
+at xs k = getD xs k 0
+
+-- the children of number c stand side by side from c's place on
+abbrev pub HungRow : (n : ℕ) (l places aboves befores : List ℕ) (c : ℕ) → Type 0
+HungRow n l places aboves befores c =
+    let A = subtree-at n l (row-first n l c) in
+    let B = subtree-at n l (row-second n l c) in
+    Stands (at places) (at aboves) (at befores) (row-first n l c) (at places c) (at aboves c + P (size B))
+    (at befores c)
+    × Stands (at places) (at aboves) (at befores) (row-second n l c) (at places c + size A)
+    (at aboves c + P (size A)) (level n A B (at aboves c))
+
+-- the last number and leaf 0 have their places, and so have the children of the numbers from c on
+pub record Hung (n : ℕ) (l places aboves befores : List ℕ) (c : ℕ) : Type 0 where
+  pub places-long : length places ≡ most-numbers
+  pub aboves-long : length aboves ≡ most-numbers
+  pub befores-long : length befores ≡ most-numbers
+  pub inside : (d : ℕ) → d < 2 * n - 2 → at places d + size (subtree-at n l d) ≤ n
+  pub small : (d : ℕ) → d < 2 * n - 2 → at aboves d + P (size (subtree-at n l d)) ≤ P n
+  pub root :
+      Laid n (at places) (at aboves) (at befores) (leaf 0) 0 (0 + P (n - 1)) 0
+      × Stands (at places) (at aboves) (at befores) (2 * n - 3) 1 0 (P (n - 1) + P n)
+  pub rows : (d : ℕ) → c ≤ d → d < 2 * n - 2 → HungRow n l places aboves befores d
+
+-- every leaf has a place of its own
+pub record OwnPlaces (n : ℕ) (places : List ℕ) : Type 0 where
+  pub few : n ≤ most-leaves
+  pub inside : (k : ℕ) → k < n → at places k < n
+  pub once : (j k : ℕ) → j < n → k < n → at places j ≡ at places k → j ≡ k
+
+-- the first m leaves stand at their places, with the levels before them
+abbrev pub Placed : (n : ℕ) (places befores order levels : List ℕ) (m : ℕ) → Type 0
+Placed n places befores order levels m =
+    (k : ℕ) → k < m → (at order (at places k) ≡ k) × (at levels (at places k) ≡ at befores k)
+
+-- the order of the leaves of a tree, leaf 0 put on, and the levels between them
+pub record Plan (n : ℕ) (T : Tree) (places aboves order levels : List ℕ) : Type 0 where
+  pub laid : Laid n (at places) (at aboves) (λ k. at levels (at places k)) (node (leaf 0) T) 0 0 0
+  pub placed : (k : ℕ) → k < n → at order (at places k) ≡ k
+  pub small : (k : ℕ) → k < n → at aboves k ≤ P n
+
+-- each place has a leaf of its own
+pub record LeafOrder (n : ℕ) (order : List ℕ) : Type 0 where
+  pub few : n ≤ most-leaves
+  pub below : (s : ℕ) → s < n → at order s < n
+  pub once : (s t : ℕ) → s < n → t < n → at order s ≡ at order t → s ≡ t
+
+-- m is the highest of the levels between the places lo and hi
+pub record Highest (levels : List ℕ) (lo hi m : ℕ) : Type 0 where
+  pub bound : (t : ℕ) → lo < t → t ≤ hi → at levels t ≤ m
+  pub least : (z : ℕ) → ((t : ℕ) → lo < t → t ≤ hi → at levels t ≤ z) → m ≤ z
+
+-- the highest level between place p and that of each other leaf; `own` for the leaf at p
+pub record Topped (n : ℕ) (order levels : List ℕ) (p own : ℕ) (tops : List ℕ) : Type 0 where
+  pub long : length tops ≡ most-leaves
+  pub here : at tops (at order p) ≡ own
+  pub after : (s : ℕ) → p < s → s < n → Highest levels p s (at tops (at order s))
+  pub before : (s : ℕ) → s < p → Highest levels s p (at tops (at order s))
+
+-- the count of the cell in column j: `base` is P(n) and what branches off above the row's leaf
+abbrev pub cell-of : (base : ℕ) (aboves tops : List ℕ) → ℕ → ℕ
+cell-of base aboves tops j = base + at aboves j - at tops j
+
+-- row i can be written
+pub record RowFits (n i base : ℕ) (aboves tops : List ℕ) (room : ℕ) : Type 0 where
+  pub few : n ≤ most-leaves
+  pub row : i < n
+  pub enough : n * n ≤ room
+  pub covered : (j : ℕ) → j < n → at tops j ≤ base + at aboves j
+  pub fits : (j : ℕ) → j < n → base + at aboves j ≤ 3 * most-sum
