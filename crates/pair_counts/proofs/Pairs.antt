@@ -45,6 +45,15 @@ P-sum (suc x) = let e : suc x - 1 ≡ x = omega arith in rw e (omega (arith, sum
 pub P-suc : (n : ℕ) → P (suc n) ≡ P n + n
 P-suc n = rw (P-sum (suc n), P-sum n) (unfold triangle in refl)
 
+-- two for each pair are n(n − 1)
+P-twice : (n : ℕ) → 2 * P (suc n) ≡ suc n * n
+P-twice zero = rw (P-suc 0, P-zero)
+P-twice (suc n) = rw (P-suc (suc n)) (omega (arith, P-twice n))
+
+pub P-double : (n : ℕ) → 2 * P n ≡ n * (n - 1)
+P-double zero = rw P-zero
+P-double (suc n) = let e : suc n - 1 ≡ n = omega arith in rw e (P-twice n)
+
 pub P-add : (x y : ℕ) → P (x + y) ≡ P x + P y + x * y
 P-add x zero = rw (add-zero x, mul-zero x, P-zero) (omega arith)
 P-add x (suc y) = rw (add-suc x y, P-suc, P-suc) (omega (arith, P-add x y))

@@ -37,7 +37,7 @@ fn try_merge(
     if a == b {
         return false;
     }
-    if !pair_fits(n, table, label, m, sizes, p, a, b) {
+    if !pair_fits(n, table, b"", label, m, sizes, p, a, b) {
         return false;
     }
     if a < b {
@@ -135,5 +135,5 @@ pub(crate) fn guided_checked(n: usize, table: &[u32], merges: &[u16], out: &mut 
     if k < n - 1 {
         return Outcome::Refused(Refusal::Proposal(k));
     }
-    rebuild_checked(n, table, out)
+    rebuild_checked(n, table, b"", out)
 }

@@ -1,5 +1,6 @@
 // Our own rebuild: which pairs are merged, in which order, and the rows of the listing that this makes.
 use crate::eligible::as_expected;
+use crate::eligible::cell_at;
 use crate::eligible::pair_fits;
 use crate::labels::MOST;
 use crate::labels::index_of_u32;
@@ -17,6 +18,7 @@ ghost use Rattle.limits.specs.Limits.{most-leaves, IsLeafCount};
 ghost use Rattle.refusals.specs.Refusals.{outcome, written};
 ghost use Rattle.trees.specs.Tables.{IsTable};
 ghost use Rattle.merging.specs.Rebuilds.{rebuilt};
+ghost use Rattle.reconstruct.specs.Lent.{lent-table};
 ghost use Rattle.reconstruct.specs.Fits.{Given, SizesFit, Joins, Partner};
 ghost use Rattle.reconstruct.specs.StateArrays.{LeavesMerged, AllMerged, Fresh, OneSubtreeFits};
 
@@ -24,6 +26,7 @@ ghost use Rattle.reconstruct.specs.StateArrays.{LeavesMerged, AllMerged,
 fn joins(
     n: usize,
     table: &[u32],
+    packed: &[u8],
     label: &[u32; MOST],
     m: &[u32; MOST],
     sizes: &[usize; MOST],
@@ -31,34 +34,37 @@ fn joins(
     a: usize,
     b: usize,
 ) -> bool
-    requires { ⌜ SizesFit n (now table) (now label) (now m) (now sizes) (now p)
+    requires { ⌜ SizesFit n (lent-table n (now table) (now packed)) (now label) (now m) (now sizes) (now p)
         × (getD (now label) a 0 ≡ a) × (a < b) × (b < n) ⌝ }
     ensures { λ r. ⌜ (r ≡ true)
-        ↔ Joins n (now (table .entry)) (now (label .entry)) (now (m .entry)) (now (sizes .entry)) a b ⌝ }
+        ↔ Joins n (lent-table n (now (table .entry)) (now (packed .entry))) (now (label .entry)) (now (m .entry))
+        (now (sizes .entry)) a b ⌝ }
 {
     if index_of_u32(label[b]) != b {
         return false;
     }
-    pair_fits(n, table, label, m, sizes, p, a, b)
+    pair_fits(n, table, packed, label, m, sizes, p, a, b)
 }
 
 // The first label after `a` whose subtree may be merged with the subtree `a`, or n.
 fn partner(
     n: usize,
     table: &[u32],
+    packed: &[u8],
     label: &[u32; MOST],
     m: &[u32; MOST],
     sizes: &[usize; MOST],
     p: &[u32; MOST + 1],
     a: usize,
 ) -> usize
-    requires { ⌜ SizesFit n (now table) (now label) (now m) (now sizes) (now p) × (getD (now label) a 0 ≡ a)
-        × (a < n) ⌝ }
-    ensures { λ r. ⌜ Partner n (now (table .entry)) (now (label .entry)) (now (m .entry)) (now (sizes .entry)) a r ⌝ }
+    requires { ⌜ SizesFit n (lent-table n (now table) (now packed)) (now label) (now m) (now sizes) (now p)
+        × (getD (now label) a 0 ≡ a) × (a < n) ⌝ }
+    ensures { λ r. ⌜ Partner n (lent-table n (now (table .entry)) (now (packed .entry))) (now (label .entry))
+        (now (m .entry)) (now (sizes .entry)) a r ⌝ }
 {
     let mut b: usize = a + 1;
     while b < n {
-        if joins(n, table, label, m, sizes, p, a, b) {
+        if joins(n, table, packed, label, m, sizes, p, a, b) {
             return b;
         }
         b += 1;
@@ -103,6 +109,7 @@ fn add_row(
 fn merge_leaf(
     n: usize,
     table: &[u32],
+    packed: &[u8],
     label: &mut [u32; MOST],
     m: &mut [u32; MOST],
     sizes: &mut [usize; MOST],
@@ -112,18 +119,20 @@ fn merge_leaf(
     t: usize,
     made: usize,
 ) -> usize
-    requires { ⌜ Given n (now table) (now p) × (0 < t) × (t < n)
-        × LeavesMerged n (now table) (now label) (now m) (now sizes) (now names) (now rows) made (t + 1) ⌝ }
-    ensures { λ r. ⌜ LeavesMerged n (now (table .entry)) (now (label .exit)) (now (m .exit)) (now (sizes .exit))
+    requires { ⌜ Given n (lent-table n (now table) (now packed)) (now p) × (0 < t) × (t < n)
+        × LeavesMerged n (lent-table n (now table) (now packed)) (now label) (now m) (now sizes) (now names)
+        (now rows) made (t + 1) ⌝ }
+    ensures { λ r. ⌜ LeavesMerged n (lent-table n (now (table .entry)) (now (packed .entry))) (now (label .exit))
+        (now (m .exit)) (now (sizes .exit))
         (now (names .exit)) (now (rows .exit)) r t ⌝ }
 {
     let mut r: usize = made;
-    let mut k: usize = partner(n, table, label, m, sizes, p, t);
+    let mut k: usize = partner(n, table, packed, label, m, sizes, p, t);
     while k < n {
         merge(n, label, m, sizes, p, t, k);
         add_row(n, names, rows, t, k, r);
         r += 1;
-        k = partner(n, table, label, m, sizes, p, t);
+        k = partner(n, table, packed, label, m, sizes, p, t);
     }
     r
 }
@@ -132,6 +141,7 @@ fn merge_leaf(
 fn merge_leaves(
     n: usize,
     table: &[u32],
+    packed: &[u8],
     label: &mut [u32; MOST],
     m: &mut [u32; MOST],
     sizes: &mut [usize; MOST],
@@ -139,16 +149,18 @@ fn merge_leaves(
     rows: &mut [u16; 2 * MOST],
     p: &[u32; MOST + 1],
 )
-    requires { ⌜ Given n (now table) (now p)
-        × LeavesMerged n (now table) (now label) (now m) (now sizes) (now names) (now rows) 0 n ⌝ }
-    ensures { λ _. ⌜ AllMerged n (now (table .entry)) (now (label .exit)) (now (m .exit)) (now (sizes .exit))
+    requires { ⌜ Given n (lent-table n (now table) (now packed)) (now p)
+        × LeavesMerged n (lent-table n (now table) (now packed)) (now label) (now m) (now sizes) (now names)
+        (now rows) 0 n ⌝ }
+    ensures { λ _. ⌜ AllMerged n (lent-table n (now (table .entry)) (now (packed .entry))) (now (label .exit))
+        (now (m .exit)) (now (sizes .exit))
         (now (names .exit)) (now (rows .exit)) ⌝ }
 {
     let mut r: usize = 0;
     let mut t: usize = n;
     while 1 < t {
         t -= 1;
-        r = merge_leaf(n, table, label, m, sizes, names, rows, p, t, r);
+        r = merge_leaf(n, table, packed, label, m, sizes, names, rows, p, t, r);
     }
 }
 
@@ -156,34 +168,44 @@ fn merge_leaves(
 fn build(
     n: usize,
     table: &[u32],
+    packed: &[u8],
     label: &mut [u32; MOST],
     m: &mut [u32; MOST],
     sizes: &mut [usize; MOST],
     names: &mut [u16; MOST],
     rows: &mut [u16; 2 * MOST],
 )
-    requires { ⌜ IsLeafCount n × IsTable n (now table)
+    requires { ⌜ IsLeafCount n × IsTable n (lent-table n (now table) (now packed))
         × Fresh (now label) (now m) (now sizes) (now names) (now rows) ⌝ }
-    ensures { λ _. ⌜ AllMerged n (now (table .entry)) (now (label .exit)) (now (m .exit)) (now (sizes .exit))
+    ensures { λ _. ⌜ AllMerged n (lent-table n (now (table .entry)) (now (packed .entry))) (now (label .exit))
+        (now (m .exit)) (now (sizes .exit))
         (now (names .exit)) (now (rows .exit)) ⌝ }
 {
     let p = pair_counts::pair_counts();
     label_leaves(n, label);
     name_leaves(n, names);
-    merge_leaves(n, table, label, m, sizes, names, rows, &p);
+    merge_leaves(n, table, packed, label, m, sizes, names, rows, &p);
 }
 
 // Whether one subtree holds all leaves from 1 on, and leaf 0 may be merged with it.
-fn one_subtree_fits(n: usize, table: &[u32], label: &[u32; MOST], m: &[u32; MOST]) -> bool
-    requires { ⌜ (n ≤ most-leaves) × (length (now table) ≡ n * n) ⌝ }
-    ensures { λ r. ⌜ (r ≡ true) ↔ OneSubtreeFits n (now (table .entry)) (now (label .entry)) (now (m .entry)) ⌝ }
+fn one_subtree_fits(
+    n: usize,
+    table: &[u32],
+    packed: &[u8],
+    label: &[u32; MOST],
+    m: &[u32; MOST],
+) -> bool
+    requires { ⌜ (n ≤ most-leaves) × (length (lent-table n (now table) (now packed)) ≡ n * n) ⌝ }
+    ensures { λ r. ⌜ (r ≡ true)
+        ↔ OneSubtreeFits n (lent-table n (now (table .entry)) (now (packed .entry))) (now (label .entry))
+        (now (m .entry)) ⌝ }
 {
     let mut k: usize = 1;
     while k < n {
         if label[k] != 1 {
             return false;
         }
-        let cell = table[k];
+        let cell = cell_at(n, table, packed, 0, k);
         let expected = m[k];
         if !as_expected(cell, expected) {
             return false;
@@ -195,10 +217,12 @@ fn one_subtree_fits(n: usize, table: &[u32], label: &[u32; MOST], m: &[u32; MOST
 
 // Our own rebuild of a table that has passed the checks placed before 6: the standard listing of the tree that has the
 // table, at the front of `out`; or 6, with `out` as it was.
-pub(crate) fn rebuild_checked(n: usize, table: &[u32], out: &mut [u16]) -> Outcome
-    requires { ⌜ IsLeafCount n × IsTable n (now table) × (2 * (n - 2) ≤ length (now out)) ⌝ }
-    ensures answer { λ r. ⌜ r ≡ outcome (rebuilt n 1 (now (table .entry))) ⌝ }
-    ensures buffer { λ _. ⌜ now (out .exit) ≡ written (rebuilt n 1 (now (table .entry))) (now (out .entry)) ⌝ }
+pub(crate) fn rebuild_checked(n: usize, table: &[u32], packed: &[u8], out: &mut [u16]) -> Outcome
+    requires { ⌜ IsLeafCount n × IsTable n (lent-table n (now table) (now packed))
+        × (2 * (n - 2) ≤ length (now out)) ⌝ }
+    ensures answer { λ r. ⌜ r ≡ outcome (rebuilt n 1 (lent-table n (now (table .entry)) (now (packed .entry)))) ⌝ }
+    ensures buffer { λ _. ⌜ now (out .exit)
+        ≡ written (rebuilt n 1 (lent-table n (now (table .entry)) (now (packed .entry)))) (now (out .entry)) ⌝ }
 {
     let mut label: [u32; MOST] = [0; MOST];
     let mut m: [u32; MOST] = [0; MOST];
@@ -208,13 +232,14 @@ pub(crate) fn rebuild_checked(n: usize, table: &[u32], out: &mut [u16]) -> Outco
     build(
         n,
         table,
+        packed,
         &mut label,
         &mut m,
         &mut sizes,
         &mut names,
         &mut rows,
     );
-    if !one_subtree_fits(n, table, &label, &m) {
+    if !one_subtree_fits(n, table, packed, &label, &m) {
         return Outcome::Refused(Refusal::NoTree);
     }
     let end = 2 * (n - 2);

@@ -6,13 +6,14 @@ use Rattle.base.specs.Lists.{tab, any-in, all-in}
 use Rattle.pair_counts.specs.Pairs.{P}
 use Rattle.refusals.specs.Refusals.{accepted, first-refusal, answered}
 use Rattle.listings.specs.Sizes.{count-refusal, room-refusal}
+use Rattle.packed_tables.specs.Packed.{cells-before, mirrored, table-with}
 use Rattle.sheets.specs.Sheets.{number, name-at, name-start, name, name-byte, is-name, same, cells, trailer, leaves-of}
 use Rattle.sheets.specs.Sheets.{offset-of, cells-of}
 use Rattle.sheets.specs.Operations.{right-ends, sheet-ends-refusal, right-sum, sheet-length-refusal, good-at, repeated}
 use Rattle.sheets.specs.Operations.{name-refusal, names-end-refusal}
 use Rattle.sheets.specs.Operations.{names-refusal, kept-sheet-refusal, sheet-refusal}
 use Rattle.sheets.proofs.Examples.{five-sheet}
-use Rattle.sheet_tables.specs.Operations.{cells-before, mirrored, table-with, sheet-table-answer}
+use Rattle.sheet_tables.specs.Operations.{sheet-table-answer}
 
 five-table : sheet-table-answer five-sheet 25 ≡ accepted (
     (0 ∷ 3 ∷ 1 ∷ 0 ∷ 0 ∷ [])

@@ -1,4 +1,4 @@
 pub mod Examples
-pub mod CellPlaces
-pub mod SheetIsTable
+pub mod PackedSheet
+pub mod TableRows
 pub mod TableWritten

@@ -4,21 +4,15 @@ use mathlib.Core.List.{List}
 use Prim.Native.Nat.{ℕ, _+_, _*_, _/_, _%_, _≤_}
 use lib.ListN.{length}
 use Rattle.base.specs.Lists.{filled}
-use Rattle.limits.specs.Limits.{most-leaves}
-use Rattle.sheets.specs.Sheets.{trailer-bytes, cell-bytes, cells}
-use Rattle.sheet_tables.specs.Operations.{mirrored}
+use Rattle.packed_tables.specs.Packed.{mirrored}
 
--- a sheet holds the cells of n leaves from the offset o to the trailer
-abbrev pub HoldsCells : List ℕ → ℕ → ℕ → Type 0
-HoldsCells S n o = (n ≤ most-leaves) × (o + cell-bytes n + trailer-bytes ≡ length S)
-
--- cell k of its table, counted row by row
-abbrev pub table-rule : List ℕ → ℕ → ℕ → ℕ → ℕ
-table-rule S n o k = mirrored n (cells S n o) (k / n) (k % n)
+-- cell k of the table with the cells c above the diagonal, counted row by row
+abbrev pub table-rule : ℕ → List ℕ → ℕ → ℕ
+table-rule n c k = mirrored n c (k / n) (k % n)
 
 -- a buffer with the rows before row i has row i too
-pub record RowWritten (S : List ℕ) (n o i : ℕ) (before after : List ℕ) : Type 0 where
+pub record RowWritten (n : ℕ) (c : List ℕ) (i : ℕ) (before after : List ℕ) : Type 0 where
   pub long : length after ≡ length before
   pub row :
-      (out : List ℕ) → n * n ≤ length out → before ≡ filled (i * n) (table-rule S n o) out
-      → after ≡ filled (i * n + n) (table-rule S n o) out
+      (out : List ℕ) → n * n ≤ length out → before ≡ filled (i * n) (table-rule n c) out
+      → after ≡ filled (i * n + n) (table-rule n c) out

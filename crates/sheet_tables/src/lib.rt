@@ -18,6 +18,8 @@ pub fn sheet_table(sheet: &[u8], out: &mut [u32]) -> Outcome
     let Outcome::Done = judged else {
         return judged;
     };
-    table::write_table(sheet, n, sheets::offset_of(sheet), out);
+    let offset = sheets::offset_of(sheet);
+    let end = offset + n * (n - 1);
+    table::write_table(n, &sheet[offset..end], out);
     judged
 }

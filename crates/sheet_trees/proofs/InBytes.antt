@@ -16,10 +16,10 @@ use Rattle.reconstruct.proofs.Promises.{rebuilt-is-standard}
 use Rattle.sheets.specs.Sheets.{low-first, leaves-of, cells-of}
 use Rattle.sheets.specs.Operations.{sheet-refusal}
 use Rattle.sheets.proofs.ByteNumbers.{length-low}
-use Rattle.sheet_tables.specs.Operations.{table-with}
-use Rattle.sheet_trees.specs.Operations.{sheet-tree, sheet-listing-answer, in-bytes, sheet-bytes-answer}
+use Rattle.packed_tables.specs.Packed.{table-with}
+use Rattle.sheet_trees.specs.Operations.{sheet-tree, in-bytes, sheet-bytes-answer}
 use Rattle.sheet_trees.specs.Steps.{byte-rule}
-use Rattle.sheet_trees.proofs.Tabled.{accepted-here, other-room, rebuilt-alone}
+use Rattle.sheet_trees.proofs.SheetTree.{accepted-here, other-room, rebuilt-alone}
 
 -- the two bytes of number m, and the bytes of the first m numbers, one by one
 low-byte : (l : List ℕ) (m : ℕ) → byte-rule l (2 * m) ≡ getD l m 0 % 256
@@ -83,41 +83,37 @@ front-bytes l cells out =
 
 -- A sheet that is accepted with its room for bytes. The numbers have room in 252 cells.
 module _ (S : List ℕ) (room : ℕ) (h : sheet-refusal S (4 * (leaves-of S - 2)) room ≡ none) where
-  fits : sheet-refusal S (2 * (leaves-of S - 2)) 252 ≡ none
+  pub fits : sheet-refusal S (2 * (leaves-of S - 2)) 252 ≡ none
   fits =
       let due = 4 * (leaves-of S - 2) in
       other-room S due room h (2 * (leaves-of S - 2)) 252 (omega (arith, accepted-here S due room h .count))
 
-  listed : sheet-listing-answer S 252 ≡ sheet-tree S
-  unfolding sheet-listing-answer
-  listed = unless-passed _ _ fits
-
-  bytes-of-listed : sheet-bytes-answer S room ≡ in-bytes (sheet-listing-answer S 252)
+  bytes-of-tree : sheet-bytes-answer S room ≡ in-bytes (sheet-tree S)
   unfolding sheet-bytes-answer
-  bytes-of-listed = unless-passed _ _ h ∙ ap in-bytes (sym listed)
+  bytes-of-tree = unless-passed _ _ h
 
-  pub bytes-answer : outcome (sheet-listing-answer S 252) ≡ outcome (sheet-bytes-answer S room)
-  bytes-answer = rw bytes-of-listed (same-outcome (sheet-listing-answer S 252))
+  pub bytes-answer : outcome (sheet-tree S) ≡ outcome (sheet-bytes-answer S room)
+  bytes-answer = rw bytes-of-tree (same-outcome (sheet-tree S))
 
   pub bytes-refused :
-      (r : Refusal) (out : List ℕ) → outcome (sheet-listing-answer S 252) ≡ Refused r
+      (r : Refusal) (out : List ℕ) → outcome (sheet-tree S) ≡ Refused r
       → out ≡ written (sheet-bytes-answer S room) out
-  bytes-refused r out e = rw bytes-of-listed (none-written (sheet-listing-answer S 252) r out e)
+  bytes-refused r out e = rw bytes-of-tree (none-written (sheet-tree S) r out e)
 
   pub bytes-written :
-      (cells out : List ℕ) → outcome (sheet-listing-answer S 252) ≡ Done
-      → filled (4 * (leaves-of S - 2)) (byte-rule (written (sheet-listing-answer S 252) cells)) out
+      (cells out : List ℕ) → outcome (sheet-tree S) ≡ Done
+      → filled (4 * (leaves-of S - 2)) (byte-rule (written (sheet-tree S) cells)) out
       ≡ written (sheet-bytes-answer S room) out
-  bytes-written cells out done = go (sheet-listing-answer S 252) refl
+  bytes-written cells out done = go (sheet-tree S) refl
     where
       go :
-          (a : Answer (List ℕ)) → sheet-listing-answer S 252 ≡ a
-          → filled (4 * (leaves-of S - 2)) (byte-rule (written (sheet-listing-answer S 252) cells)) out
+          (a : Answer (List ℕ)) → sheet-tree S ≡ a
+          → filled (4 * (leaves-of S - 2)) (byte-rule (written (sheet-tree S) cells)) out
           ≡ written (sheet-bytes-answer S room) out
       go (refused r) e = absurd (not-done r (sym (ap outcome e) ∙ done))
       go (accepted l) e =
           let n = leaves-of S in
           let t = table-with n (cells-of S) in
-          let kept = rebuilt-is-standard n t 252 l (rebuilt-alone S 252 fits ∙ sym listed ∙ e) .0 in
+          let kept = rebuilt-is-standard n t 252 l (rebuilt-alone S 252 fits ∙ e) .0 in
           let many : 4 * (n - 2) ≡ 2 * length l = omega (arith, kept .numbers) in
-          rw (bytes-of-listed, e, many) (front-bytes l cells out)
+          rw (bytes-of-tree, e, many) (front-bytes l cells out)

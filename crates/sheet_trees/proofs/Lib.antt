@@ -1,3 +1,3 @@
-pub mod Tabled
+pub mod SheetTree
 pub mod Listed
 pub mod InBytes

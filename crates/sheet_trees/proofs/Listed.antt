@@ -16,7 +16,7 @@ use Rattle.sheets.specs.Sheets.{leaves-of, offset-of}
 use Rattle.sheets.specs.Operations.{right-ends, sheet-refusal}
 use Rattle.sheets.proofs.SheetRefusal.{ends-refused, count-refused}
 use Rattle.sheet_trees.specs.Operations.{sheet-tree, sheet-listing-answer}
-use Rattle.sheet_trees.proofs.Tabled.{accepted-here}
+use Rattle.sheet_trees.proofs.SheetTree.{accepted-here}
 
 -- a leaf count that is refused: 13 or 1 arises, whatever the room
 pub count-decides :

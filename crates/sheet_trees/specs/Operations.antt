@@ -8,7 +8,7 @@ use Rattle.refusals.specs.Refusals.{number-of, Answer, accepted, refused, unles
 use Rattle.merging.specs.Rebuilds.{rebuilt}
 use Rattle.sheets.specs.Sheets.{low-first, leaves-of, cells-of}
 use Rattle.sheets.specs.Operations.{sheet-refusal}
-use Rattle.sheet_tables.specs.Operations.{table-with}
+use Rattle.packed_tables.specs.Packed.{table-with}
 
 -- the tree that has the table of the sheet S, if one has: its standard listing, or 6
 unfoldable pub sheet-tree : List ℕ → Answer (List ℕ)

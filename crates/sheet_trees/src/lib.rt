@@ -1,12 +1,14 @@
 // The tree of a strain sheet: sheet in, listing out.
 use refusals::Outcome;
 ghost use mathlib.Core.Path.{_≡_};
+ghost use mathlib.Core.Option.{none};
 ghost use Prim.Native.Nat.{_-_, _*_, _≤_};
 ghost use lib.ListN.{length};
 ghost use Rattle.refusals.specs.Refusals.{outcome-of, outcome, written};
 ghost use Rattle.sheets.specs.Sheets.{leaves-of};
 ghost use Rattle.sheets.specs.Operations.{sheet-refusal};
-ghost use Rattle.sheet_trees.specs.Operations.{sheet-listing-answer, sheet-bytes-answer, outcome-number};
+ghost use Rattle.sheet_trees.specs.Operations.{sheet-tree, sheet-listing-answer, sheet-bytes-answer};
+ghost use Rattle.sheet_trees.specs.Operations.{outcome-number};
 
 mod bytes;
 
@@ -24,6 +26,18 @@ fn judge_rows(sheet: &[u8], cells: usize, room: usize) -> Outcome
     sheets::judge_sheet(sheet, cells * (n - 2), room)
 }
 
+// The tree of a sheet that has been judged, with room for its listing: the rebuild reads the cells where they stand.
+fn tree_of(sheet: &[u8], listing: &mut [u16]) -> Outcome
+    requires { ⌜ sheet-refusal (now sheet) (2 * (leaves-of (now sheet) - 2)) (length (now listing)) ≡ none ⌝ }
+    ensures answer { λ r. ⌜ r ≡ outcome (sheet-tree (now (sheet .entry))) ⌝ }
+    ensures buffer { λ _. ⌜ now (listing .exit) ≡ written (sheet-tree (now (sheet .entry))) (now (listing .entry)) ⌝ }
+{
+    let n = sheets::leaf_count_of(sheet);
+    let offset = sheets::offset_of(sheet);
+    let end = offset + n * (n - 1);
+    reconstruct::rebuild_packed(n, &sheet[offset..end], listing)
+}
+
 // Writes the standard listing of the tree that has the sheet's table at the front of `listing`: 13, 1, 14, 3, 15, 16,
 // then 6.
 pub fn listing_of(sheet: &[u8], listing: &mut [u16]) -> Outcome
@@ -35,11 +49,7 @@ pub fn listing_of(sheet: &[u8], listing: &mut [u16]) -> Outcome
     let Outcome::Done = judged else {
         return judged;
     };
-    let n = sheets::leaf_count_of(sheet);
-    let mut cells = [0u32; 16384];
-    sheet_tables::sheet_table(sheet, &mut cells);
-    let end = n * n;
-    reconstruct::rebuild(n, &cells[..end], listing)
+    tree_of(sheet, listing)
 }
 
 // The same as bytes: two for each number of the listing, low byte first.
@@ -53,7 +63,7 @@ pub fn listing_bytes_of(sheet: &[u8], out: &mut [u8]) -> Outcome
         return judged;
     };
     let mut listing = [0u16; 252];
-    let answer = listing_of(sheet, &mut listing);
+    let answer = tree_of(sheet, &mut listing);
     let Outcome::Done = answer else {
         return answer;
     };

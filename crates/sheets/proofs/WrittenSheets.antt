@@ -15,6 +15,7 @@ use lib.Seq.{drop-drop}
 use Rattle.base.proofs.Bools.{and-both, and-is, is-false}
 use Rattle.base.proofs.Lists.{length-flat, flat-append, flat-more}
 use Rattle.limits.specs.Limits.{most-leaves}
+use Rattle.pair_counts.proofs.Pairs.{P-double}
 use Rattle.sheets.specs.Sheets.{number, low-first, trailer-bytes, trailer, leaves-of, offset-of, mark}
 use Rattle.sheets.specs.Sheets.{longest-name, name-at, next-name, name-start, name, is-name, same, cell-bytes}
 use Rattle.sheets.specs.Sheets.{cells}
@@ -24,7 +25,7 @@ use Rattle.sheets.proofs.ByteNumbers.{length-low, number-low, trailer-l
 use Rattle.sheets.proofs.Names.{same-is, same-self, good-by, any-tab-none, names-many, names-at}
 use Rattle.sheets.proofs.NameRefusals.{PassedNames, passed-none, passed-more, all-passed}
 use Rattle.sheets.proofs.SheetRefusal.{names-left}
-use Rattle.sheets.proofs.Cells.{two-bytes-each, cells-many, cell-at}
+use Rattle.sheets.proofs.Cells.{cells-many, cell-at}
 use Rattle.sheets.proofs.Sizes.{cell-bytes-le}
 
 -- a name has at most 40 bytes, so that all of them have at most 41 each
@@ -77,7 +78,7 @@ module _ (l : List (List ℕ)) (c : List ℕ) (w : Writable l c) where
   parts = simp append-assoc
 
   body-long : length body ≡ cell-bytes n
-  body-long = length-flat 2 (low-first 2) (length-low 2) c ∙ rw (w .many) (two-bytes-each n)
+  body-long = length-flat 2 (low-first 2) (length-low 2) c ∙ rw (w .many) (P-double n)
 
   tail-long : length tail ≡ trailer-bytes
   tail-long = rw (length-append (low-first 2 n) _, length-append (low-first 4 o) mark, length-low 2 n, length-low 4 o)

@@ -1,5 +1,5 @@
 -- `sheet_tables::sheet_table` meets its contract: nothing is written before `judge_sheet` is done, and what it accepts
--- holds the cells, so that the table is written.
+-- has its cells between the offset and the trailer, so that the table is written.
 use mathlib.Core.Path.{_≡_, sym, _∙_}
 use mathlib.Core.Option.{none}
 use Prim.Native.Nat.{_*_, _≤_}
@@ -9,8 +9,9 @@ use borrow.Author.Needs.{needs}
 use lib.ListN.{length}
 use Rattle.refusals.proofs.Answers.{outcome-answered, done-none, refused-some, written-refused}
 use Rattle.sheets.specs.Operations.{sheet-refusal}
-use Rattle.sheets.proofs.SheetRefusal.{accepted-sheet}
+use Rattle.sheets.proofs.SheetRefusal.{Accepted, accepted-sheet}
 use Rattle.sheet_tables.specs.Operations.{sheet-table-answer}
+use Rattle.sheet_tables.proofs.PackedSheet.{bytes-long, sheet-cells}
 use Rattle.sheet_tables.proofs.TableWritten.{sheet-table-written}
 use Rattle.sheet_tables.proofs.sheet_table.Statement.{statement}
 use Rattle.sheet_tables.proofs.sheet_table.Tie as tie
@@ -51,13 +52,40 @@ none-arises c = done-none _ (sym (c .before .before .judge-sheet .ensures) ∙ c
 offset-of-requires : tie.Need-offset-of-requires
 offset-of-requires c κs = search needs
 
-write-table-requires : tie.Need-write-table-requires
+-- the sheet as it was accepted, in the figures that the code has
+accepted :
+    (c : tie.After-offset-of)
+    → (let a = c .before .before .before .before .before .before .before .args in
+    let n = c .before .before .before .before .leaf-count-of .result in
+    Accepted (a .sheet .now) n (c .offset-of .result) (n * n) (length (a .out .now)))
 unfolding sheet-refusal
+accepted c =
+    let n-is = c .before .before .before .before .leaf-count-of .ensures .0 in
+    rw (c .offset-of .ensures) (rw (sym n-is) at (accepted-sheet _ _ _ _ _ (rw n-is at (none-arises (c .before)))))
+
+sub-end : tie.Need-sub-end
+sub-end c = omega (arith, accepted c .count)
+
+mul-end : tie.Need-mul-end
+mul-end c = omega (arith, accepted c .sum)
+
+add-end : tie.Need-add-end
+add-end c = omega (arith, accepted c .sum)
+
+sub-write-table : tie.Need-sub-write-table
+sub-write-table c = search needs
+
+part-write-table-start : tie.Need-part-write-table-start
+part-write-table-start c = search needs
+
+part-write-table-end : tie.Need-part-write-table-end
+part-write-table-end c = omega (arith, accepted c .sum)
+
+write-table-requires : tie.Need-write-table-requires
 write-table-requires c κs =
-    let done = c .before .before in
-    let a = accepted-sheet _ _ _ _ _ (none-arises done) in
-    let n-is = done .before .before .before .leaf-count-of .ensures .0 in
-    (rw (n-is, c .before .offset-of .ensures) (a .count .1, a .sum), a .room-enough)
+    let a = accepted (c .before .before) in
+    let n = c .before .before .before .before .before .before .leaf-count-of .result in
+    ((a .count, bytes-long _ n (c .before .before .offset-of .result) (omega (arith, a .sum))), a .room-enough)
 
 same-length : tie.Need-same-length
 same-length c = search needs
@@ -66,11 +94,12 @@ returns-2 : tie.Need-returns-2
 unfolding sheet-table-answer
 returns-2 c =
     let put = c .before .before in
-    let offset-is = put .before .before .offset-of .ensures in
-    let done = put .before .before .before in
-    let n-is = done .before .before .before .leaf-count-of .ensures .0 in (
+    let placed = put .before .before .before in
+    let done = placed .before in
+    let n-is = done .before .before .before .leaf-count-of .ensures .0 in
+    let cells-are = sheet-cells _ n-is (placed .offset-of .ensures) (omega (arith, accepted placed .sum)) in (
       (rw n-is at (done .before .before .judge-sheet .ensures)) ∙ sym (outcome-answered _ _),
-      put .write-table .ensures ∙ sym (sheet-table-written _ _ n-is offset-is (none-arises done)),
+      put .write-table .ensures ∙ sym (sheet-table-written _ _ n-is cells-are (none-arises done)),
     )
 
 pub sheet-table-spec : {M : Type 1} → statement M
@@ -84,6 +113,12 @@ sheet-table-spec =
     enum-told-2
     returns
     offset-of-requires
+    sub-end
+    mul-end
+    add-end
+    sub-write-table
+    part-write-table-start
+    part-write-table-end
     write-table-requires
     same-length
     returns-2)

@@ -1,4 +1,4 @@
--- `strains::listing_bytes_of` meets its contract: nothing is written before `judge_rows` and `listing_of` are done;
+-- `strains::listing_bytes_of` meets its contract: nothing is written before `judge_rows` and `tree_of` are done;
 -- then the listing stands in a local array, and its bytes are written.
 use mathlib.Core.Path.{_≡_, sym, _∙_}
 use mathlib.Core.Option.{none}
@@ -11,8 +11,8 @@ use Rattle.refusals.proofs.Answers.{done-none, unless-told}
 use Rattle.sheets.specs.Sheets.{leaves-of}
 use Rattle.sheets.specs.Operations.{sheet-refusal}
 use Rattle.sheet_trees.specs.Operations.{sheet-bytes-answer}
-use Rattle.sheet_trees.proofs.Tabled.{accepted-here}
-use Rattle.sheet_trees.proofs.InBytes.{bytes-answer, bytes-refused, bytes-written}
+use Rattle.sheet_trees.proofs.SheetTree.{accepted-here}
+use Rattle.sheet_trees.proofs.InBytes.{fits, bytes-answer, bytes-refused, bytes-written}
 use Rattle.sheet_trees.proofs.listing_bytes_of.Statement.{statement}
 use Rattle.sheet_trees.proofs.listing_bytes_of.Tie as tie
 
@@ -29,11 +29,19 @@ returns : tie.Need-returns
 unfolding sheet-bytes-answer
 returns c = unless-told _ _ _ _ _ (c .before .before .judge-rows .ensures) (c .enum-told2 .given .1)
 
-slice-aggregate-listing-of : tie.Need-slice-aggregate-listing-of
-slice-aggregate-listing-of c = search needs
+-- `judge_rows` found nothing to refuse
+none-arises :
+    (c : tie.After-enum-told)
+    → (let a = c .before .before .before .before .before .args in
+    let S = a .sheet .now in
+    sheet-refusal S (4 * (leaves-of S - 2)) (length (a .out .now)) ≡ none)
+none-arises c = done-none _ (sym (c .before .before .judge-rows .ensures) ∙ c .enum-told .given .1)
 
-listing-of-requires : tie.Need-listing-of-requires
-listing-of-requires c κs = search needs
+slice-aggregate-tree-of : tie.Need-slice-aggregate-tree-of
+slice-aggregate-tree-of c = search needs
+
+tree-of-requires : tie.Need-tree-of-requires
+tree-of-requires c κs = fits _ _ (none-arises (c .before))
 
 enum-told-3 : tie.Need-enum-told-3
 enum-told-3 c = search needs
@@ -41,22 +49,12 @@ enum-told-3 c = search needs
 enum-told-4 : tie.Need-enum-told-4
 enum-told-4 c = search needs
 
--- `judge_rows` found nothing to refuse
-none-arises :
-    (c : tie.After-listing-of)
-    → (let a = c .before .before .before .before .before .before .before .args in
-    let S = a .sheet .now in
-    sheet-refusal S (4 * (leaves-of S - 2)) (length (a .out .now)) ≡ none)
-none-arises c =
-    let told = c .before .before in
-    done-none _ (sym (told .before .before .judge-rows .ensures) ∙ told .enum-told .given .1)
-
 returns-2 : tie.Need-returns-2
 returns-2 c =
     let made = c .before .before .before in
-    let answer = made .listing-of .ensures .0 in (
-      answer ∙ bytes-answer _ _ (none-arises made),
-      bytes-refused _ _ (none-arises made) _ _ (sym answer ∙ c .enum-told4 .given .1),
+    let answer = made .tree-of .ensures .0 in (
+      answer ∙ bytes-answer _ _ (none-arises (made .before .before)),
+      bytes-refused _ _ (none-arises (made .before .before)) _ _ (sym answer ∙ c .enum-told4 .given .1),
     )
 
 leaf-count-of-requires : tie.Need-leaf-count-of-requires
@@ -65,7 +63,8 @@ leaf-count-of-requires c κs = search needs
 -- the leaf count is right
 count : (c : tie.After-leaf-count-of) → IsLeafCount (c .leaf-count-of .result)
 count c =
-    rw (c .leaf-count-of .ensures .0) (accepted-here _ _ _ (none-arises (c .before .before .before .before)) .count)
+    rw (c .leaf-count-of .ensures .0)
+    (accepted-here _ _ _ (none-arises (c .before .before .before .before .before .before)) .count)
 
 sub-write-bytes : tie.Need-sub-write-bytes
 sub-write-bytes c = omega (arith, count c)
@@ -76,7 +75,8 @@ mul-write-bytes c = search needs
 write-bytes-requires : tie.Need-write-bytes-requires
 write-bytes-requires c κs =
     let counted = c .before .before in
-    let room = accepted-here _ _ _ (none-arises (counted .before .before .before .before)) .room-enough in
+    let room = accepted-here _ _ _
+    (none-arises (counted .before .before .before .before .before .before)) .room-enough in
     (omega (arith, count counted), rw (counted .leaf-count-of .ensures .0) room)
 
 same-length : tie.Need-same-length
@@ -87,11 +87,11 @@ returns-3 c =
     let counted = c .before .before .before .before .before in
     let told = counted .before in
     let made = told .before .before .before in
-    let answer = made .listing-of .ensures .0 in
-    let put = rw (counted .leaf-count-of .ensures .0, made .listing-of .ensures .1)
+    let answer = made .tree-of .ensures .0 in
+    let put = rw (counted .leaf-count-of .ensures .0, made .tree-of .ensures .1)
     at (c .before .before .write-bytes .ensures) in (
-      answer ∙ bytes-answer _ _ (none-arises made),
-      put ∙ bytes-written _ _ (none-arises made) _ _ (sym answer ∙ told .enum-told3 .given .1),
+      answer ∙ bytes-answer _ _ (none-arises (made .before .before)),
+      put ∙ bytes-written _ _ (none-arises (made .before .before)) _ _ (sym answer ∙ told .enum-told3 .given .1),
     )
 
 pub listing-bytes-of-spec : {M : Type 1} → statement M
@@ -102,8 +102,8 @@ listing-bytes-of-spec =
     enum-told
     enum-told-2
     returns
-    slice-aggregate-listing-of
-    listing-of-requires
+    slice-aggregate-tree-of
+    tree-of-requires
     enum-told-3
     enum-told-4
     returns-2

@@ -3,6 +3,7 @@
 use borrow.Author.Needs.{needs}
 use Rattle.refusals.specs.Refusals.{outcome, written}
 use Rattle.merging.proofs.Runs.{halt}
+use Rattle.reconstruct.proofs.Lent.{no-bytes}
 use Rattle.reconstruct.proofs.Results.{holds-start}
 use Rattle.reconstruct.proofs.Proposals.{guided-at, guided-whole}
 use Rattle.reconstruct.proofs.guided_rebuild.guided_checked.Statement.{statement}
@@ -33,19 +34,25 @@ returns c =
     let e = guided-at (c .before .accepted-steps .ensures) (c .if1 .taken) in
     (rw e, rw e)
 
+slice-aggregate-rebuild-checked : tie.Need-slice-aggregate-rebuild-checked
+slice-aggregate-rebuild-checked c = search needs
+
 rebuild-checked-requires : tie.Need-rebuild-checked-requires
-rebuild-checked-requires c κs = search needs
+rebuild-checked-requires c κs =
+    let followed = c .before .before .before in
+    let s = followed .before .before .before .before .before .before .before .before .before .before .before in
+    (s .pre .0, rw (no-bytes (s .args .n) (s .args .table .now)) (s .pre .1), s .pre .2)
 
 same-length : tie.Need-same-length
 same-length c = search needs
 
 returns-2 : tie.Need-returns-2
 returns-2 c =
-    let passed = c .before .before .before .before in
+    let passed = c .before .before .before .before .before in
     let followed = passed .before in
     let s = followed .before .before .before .before .before .before .before .before .before .before .before in
     let e = guided-whole (followed .accepted-steps .ensures) (s .pre .0) (s .pre .1) (s .pre .3) (passed .if1 .left) in
-    rw e (c .before .before .rebuild-checked .ensures)
+    rw e (rw (no-bytes (s .args .n) (s .args .table .now)) at (c .before .before .rebuild-checked .ensures))
 
 pub guided-checked-spec : {M : Type 1} → statement M
 guided-checked-spec =
@@ -56,6 +63,7 @@ guided-checked-spec =
     accepted-steps-requires
     sub-if1
     returns
+    slice-aggregate-rebuild-checked
     rebuild-checked-requires
     same-length
     returns-2)

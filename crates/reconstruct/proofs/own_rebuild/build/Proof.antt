@@ -1,6 +1,7 @@
 -- `reconstruct::own_rebuild::build` meets its contract: single leaves, and then every leaf but 0 climbs.
 use denote.Ref.{now}
 use borrow.Author.Needs.{needs}
+use Rattle.reconstruct.specs.Lent.{lent-table}
 use Rattle.reconstruct.proofs.Results.{leaves-merged-start}
 use Rattle.reconstruct.proofs.own_rebuild.build.Statement.{statement}
 use Rattle.reconstruct.proofs.own_rebuild.build.Tie as tie
@@ -10,12 +11,12 @@ pair-counts-requires c κs = search needs
 
 label-leaves-requires : tie.Need-label-leaves-requires
 label-leaves-requires c κs =
-    let s = c .before .before .before in
+    let s = c .before .before .before .before in
     (s .pre .0 .1, rw (s .pre .2 .label-made))
 
 name-leaves-requires : tie.Need-name-leaves-requires
 name-leaves-requires c κs =
-    let s = c .before .before .before .before .before in
+    let s = c .before .before .before .before .before .before in
     (s .pre .0 .1, rw (s .pre .2 .names-made))
 
 merge-leaves-requires : tie.Need-merge-leaves-requires
@@ -23,9 +24,10 @@ merge-leaves-requires c κs =
     let named = c .before .before .before .before .before .before in
     let settled = named .before .before in
     let counted = settled .before .before in
-    let s = counted .before .before in (
+    let s = counted .before .before .before in (
       record { leaf-count = s .pre .0; is-table = s .pre .1; pair-counts = counted .pair-counts .ensures },
-      leaves-merged-start (s .args .n) (s .pre .0 .1) (now (s .args .table)) (s .pre .2)
+      leaves-merged-start (s .args .n) (s .pre .0 .1)
+          (lent-table (s .args .n) (now (s .args .table)) (now (s .args .packed))) (s .pre .2)
           (settled .label-leaves .ensures)
           (named .name-leaves .ensures),
     )

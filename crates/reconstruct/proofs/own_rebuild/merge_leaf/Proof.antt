@@ -2,6 +2,7 @@
 -- partner.
 use Prim.Native.Nat.{_-_, _<_}
 use native.Mathlib.Omega.{arith}
+use Rattle.reconstruct.specs.Lent.{lent-table}
 use Rattle.reconstruct.specs.Fits.{Given, Partner}
 use Rattle.reconstruct.specs.StateArrays.{MergingLeaf}
 use Rattle.reconstruct.proofs.LeafMerges.{begin, own-label, leaf-merge-sizes-fit, merges, leaf-merge-room}
@@ -11,21 +12,24 @@ use Rattle.reconstruct.proofs.own_rebuild.merge_leaf.Statement.{stateme
 use Rattle.reconstruct.proofs.own_rebuild.merge_leaf.Tie as tie
 
 abbrev Inv-loop : tie.InvT-loop
-Inv-loop n table label₀ m₀ sizes₀ names₀ rows₀ p t made r₀ k₀ label m sizes names rows r k =
-    Given n table p × (t < n) × MergingLeaf n table label m sizes names rows r t × Partner n table label m sizes t k
+Inv-loop n table packed label₀ m₀ sizes₀ names₀ rows₀ p t made r₀ k₀ label m sizes names rows r k =
+    Given n (lent-table n table packed) p
+    × (t < n)
+    × MergingLeaf n (lent-table n table packed) label m sizes names rows r t
+    × Partner n (lent-table n table packed) label m sizes t k
 
 abbrev μ-loop : tie.MeasureT-loop
-μ-loop n table label₀ m₀ sizes₀ names₀ rows₀ p t made r₀ k₀ label m sizes names rows r k = n - r
+μ-loop n table packed label₀ m₀ sizes₀ names₀ rows₀ p t made r₀ k₀ label m sizes names rows r k = n - r
 
 partner-requires : tie.Need-partner-requires Inv-loop μ-loop
 partner-requires c κs =
-    let s = c .before .before .before .before in
+    let s = c .before .before .before .before .before in
     let b = begin (s .pre .1) (s .pre .3) in
     (leaf-merge-sizes-fit (s .pre .0) b (s .pre .2), own-label (s .pre .0) b (s .pre .2), s .pre .2)
 
 loop-holds : tie.Need-loop-holds Inv-loop μ-loop
 loop-holds c =
-    let s = c .before .before .before .before .before in
+    let s = c .before .before .before .before .before .before in
     (s .pre .0, s .pre .2, begin (s .pre .1) (s .pre .3), c .partner .ensures)
 
 merge-requires : tie.Need-merge-requires Inv-loop μ-loop

@@ -3,19 +3,20 @@ use mathlib.Core.Path.{_≡_}
 use Prim.Native.Nat.{_+_, _-_, _≤_}
 use native.Mathlib.Omega.{arith}
 use borrow.Author.Needs.{needs}
+use Rattle.reconstruct.specs.Lent.{lent-table}
 use Rattle.reconstruct.specs.StateArrays.{LeavesMerged}
 use Rattle.reconstruct.proofs.own_rebuild.merge_leaves.Statement.{statement}
 use Rattle.reconstruct.proofs.own_rebuild.merge_leaves.Tie as tie
 
 abbrev Inv-loop : tie.InvT-loop
-Inv-loop n table label₀ m₀ sizes₀ names₀ rows₀ p r₀ t₀ label m sizes names rows r t =
-    (1 ≤ t) × (t ≤ n) × LeavesMerged n table label m sizes names rows r t
+Inv-loop n table packed label₀ m₀ sizes₀ names₀ rows₀ p r₀ t₀ label m sizes names rows r t =
+    (1 ≤ t) × (t ≤ n) × LeavesMerged n (lent-table n table packed) label m sizes names rows r t
 
 abbrev μ-loop : tie.MeasureT-loop
-μ-loop n table label₀ m₀ sizes₀ names₀ rows₀ p r₀ t₀ label m sizes names rows r t = t
+μ-loop n table packed label₀ m₀ sizes₀ names₀ rows₀ p r₀ t₀ label m sizes names rows r t = t
 
 loop-holds : tie.Need-loop-holds Inv-loop μ-loop
-loop-holds c = (omega (arith, c .before .pre .0 .leaf-count), omega arith, c .before .pre .1)
+loop-holds c = (omega (arith, c .before .before .pre .0 .leaf-count), omega arith, c .before .before .pre .1)
 
 sub-t : tie.Need-sub-t Inv-loop μ-loop
 sub-t c = search needs
@@ -25,7 +26,7 @@ merge-leaf-requires c κs =
     let before = c .before .before .before .before .before .before in
     let l = before .loop in
     let e : l .t - 1 + 1 ≡ l .t = omega arith in
-    (before .before .before .pre .0, omega arith, omega (arith, l .inv .1), rw e (l .inv .2))
+    (before .before .before .before .pre .0, omega arith, omega (arith, l .inv .1), rw e (l .inv .2))
 
 loop-less : tie.Need-loop-less Inv-loop μ-loop
 loop-less c = search needs

@@ -7,17 +7,18 @@ use borrow.Author.Count.{below-more}
 use borrow.Author.Needs.{needs}
 use borrow.Author.Tests.{eqb-true, not-false}
 use lib.ListN.{getD}
-use Rattle.base.proofs.Lists.{place}
+use Rattle.reconstruct.specs.Lent.{lent-table}
 use Rattle.reconstruct.proofs.Fits.{says-no, says-yes, unexpected}
+use Rattle.reconstruct.proofs.Lent.{first-row}
 use Rattle.reconstruct.proofs.own_rebuild.one_subtree_fits.Statement.{statement}
 use Rattle.reconstruct.proofs.own_rebuild.one_subtree_fits.Tie as tie
 
 abbrev Inv-loop : tie.InvT-loop
-Inv-loop n table label m k₀ k =
-    (1 ≤ k) × ((i : ℕ) → i < k → 1 ≤ i → (getD label i 0 ≡ 1) × (getD table i 0 ≡ getD m i 0))
+Inv-loop n table packed label m k₀ k =
+    (1 ≤ k) × ((i : ℕ) → i < k → 1 ≤ i → (getD label i 0 ≡ 1) × (getD (lent-table n table packed) i 0 ≡ getD m i 0))
 
 abbrev μ-loop : tie.MeasureT-loop
-μ-loop n table label m k₀ k = n - k
+μ-loop n table packed label m k₀ k = n - k
 
 loop-holds : tie.Need-loop-holds Inv-loop μ-loop
 loop-holds c = (omega arith, λ i l z. absurd (omega arith))
@@ -31,16 +32,19 @@ element-copy-out-if1 c = search needs
 returns : tie.Need-returns Inv-loop μ-loop
 returns c = says-no (λ w. c .if1 .taken (w (c .before .before .before .loop .k) (omega arith) (omega arith) .0))
 
-mul-cell : tie.Need-mul-cell Inv-loop μ-loop
-mul-cell c = search needs
-
-shared-slice-read-cell : tie.Need-shared-slice-read-cell Inv-loop μ-loop
-shared-slice-read-cell c =
-    let n = c .before .before .before .before .before .before .args .n in
-    omega (arith, place n 0 (c .before .before .before .before .loop .k) (omega arith) (omega arith))
+cell-at-requires : tie.Need-cell-at-requires Inv-loop μ-loop
+cell-at-requires c κs = search needs
 
 mul-expected : tie.Need-mul-expected Inv-loop μ-loop
 mul-expected c = search needs
+
+-- the cell that is read is the table's
+first-cell :
+    (c : tie.After-cell-at Inv-loop μ-loop)
+    → (let a = c .before .before .before .before .before .before .before .args in
+    c .cell-at .result
+    ≡ getD (lent-table (a .n) (a .table .now) (a .packed .now)) (c .before .before .before .before .loop .k) 0)
+first-cell c = c .cell-at .ensures ∙ first-row _ _ _
 
 element-copy-out-expected : tie.Need-element-copy-out-expected Inv-loop μ-loop
 element-copy-out-expected c = search needs
@@ -52,7 +56,7 @@ returns-2 : tie.Need-returns-2 Inv-loop μ-loop
 returns-2 c =
     let k = c .before .before .before .before .before .before .before .loop .k in
     let off = unexpected _ _ _ (c .before .as-expected .ensures) (c .if2 .taken) in
-    says-no (λ w. off (w k (omega arith) (omega arith) .1))
+    says-no (λ w. off (first-cell (c .before .before .before) ∙ w k (omega arith) (omega arith) .1))
 
 add-k : tie.Need-add-k Inv-loop μ-loop
 add-k c = search needs
@@ -64,7 +68,8 @@ loop-again : tie.Need-loop-again Inv-loop μ-loop
 loop-again c =
     let l = c .before .before .before .before .before .before .before .loop in
     let fits = eqb-true _ _ (sym (c .before .as-expected .ensures) ∙ not-false _ (c .if2 .left)) in
-    (omega arith, below-more _ _ (l .inv .1) (λ z. (c .before .before .before .before .if1 .left, fits)))
+    let right = sym (first-cell (c .before .before .before)) ∙ fits in
+    (omega arith, below-more _ _ (l .inv .1) (λ z. (c .before .before .before .before .if1 .left, right)))
 
 returns-3 : tie.Need-returns-3 Inv-loop μ-loop
 returns-3 c = says-yes (λ k l z. c .before .loop .inv .1 k (omega arith) z)
@@ -79,8 +84,7 @@ one-subtree-fits-spec =
     mul-if1
     element-copy-out-if1
     returns
-    mul-cell
-    shared-slice-read-cell
+    cell-at-requires
     mul-expected
     element-copy-out-expected
     as-expected-requires

@@ -4,16 +4,17 @@ use native.Mathlib.Omega.{arith}
 use borrow.Author.Count.{below-more}
 use borrow.Author.Needs.{needs}
 use Rattle.base.proofs.Bools.{never}
+use Rattle.reconstruct.specs.Lent.{lent-table}
 use Rattle.reconstruct.specs.Fits.{Joins}
 use Rattle.reconstruct.proofs.own_rebuild.partner.Statement.{statement}
 use Rattle.reconstruct.proofs.own_rebuild.partner.Tie as tie
 
 abbrev Inv-loop : tie.InvT-loop
-Inv-loop n table label m sizes p a b₀ b =
-    (a < b) × (b ≤ n) × ((i : ℕ) → i < b → a < i → Joins n table label m sizes a i → ⊥)
+Inv-loop n table packed label m sizes p a b₀ b =
+    (a < b) × (b ≤ n) × ((i : ℕ) → i < b → a < i → Joins n (lent-table n table packed) label m sizes a i → ⊥)
 
 abbrev μ-loop : tie.MeasureT-loop
-μ-loop n table label m sizes p a b₀ b = n - b
+μ-loop n table packed label m sizes p a b₀ b = n - b
 
 add-b : tie.Need-add-b Inv-loop μ-loop
 add-b c = search needs

@@ -22,7 +22,7 @@ returns : tie.Need-returns
 returns c =
     let tested = c .before in
     let built = tested .before .before .before in
-    let s = built .before .before .before .before .before .before .before .before in
+    let s = built .before .before .before .before .before .before .before .before .before in
     answered-none (s .pre .0) (s .pre .1) (built .build .ensures .climbed)
     (λ q. never (tested .one-subtree-fits .ensures .1 q) (not-true _ (c .if1 .taken))) (now (s .args .out))
 
@@ -52,7 +52,7 @@ returns-2 c =
     let passed = asked .before .before .before in
     let tested = passed .before in
     let built = tested .before .before .before in
-    let s = built .before .before .before .before .before .before .before .before in
+    let s = built .before .before .before .before .before .before .before .before .before in
     let one-subtree-fits = tested .one-subtree-fits .ensures .0 (not-false _ (passed .if1 .left)) in
     let end = built .build .ensures .climbed in (
       rebuilt-done (s .pre .0) (s .pre .1) end one-subtree-fits,

@@ -1,106 +1,97 @@
--- `sheet_tables::table::write_row` meets its contract: after j turns j cells of the row stand behind the rows before
--- it.
-use mathlib.Core.Path.{_≡_, refl, ap, sym, _∙_}
+-- `sheet_tables::table::write_row` meets its contract: the part of the buffer behind the rows before row i begins with
+-- row i.
+use mathlib.Core.Path.{_≡_, ap, sym, _∙_}
 use mathlib.Core.List.{List}
-use Prim.Native.Nat.{ℕ, _+_, _-_, _*_, _≤_}
+use Prim.Native.Nat.{ℕ, _+_, _-_, _*_, _≤_, _<_}
+use native.Mathlib.Nat.{mul-le-mul-right, suc-mul}
 use native.Mathlib.Omega.{arith}
 use borrow.Author.Needs.{needs}
-use lib.ListN.{length, length-set}
+use borrow.Rule.Slice.PartMut.{same-len-mid, mid-len}
+use lib.ListN.{length, take, drop}
 use Rattle.base.specs.Lists.{filled}
-use Rattle.base.proofs.Lists.{row-of, column-of, place}
-use Rattle.base.proofs.Filling.{filled-more}
-use Rattle.sheets.specs.Sheets.{cells}
-use Rattle.sheet_tables.specs.Operations.{mirrored}
+use Rattle.base.proofs.Lists.{row-of, column-of}
+use Rattle.base.proofs.Filling.{length-filled}
+use Rattle.packed_tables.specs.Packed.{mirrored, packed-cells}
+use Rattle.packed_tables.proofs.Sizes.{row-read}
 use Rattle.sheet_tables.specs.Steps.{table-rule}
-use Rattle.sheet_tables.proofs.CellPlaces.{row-small}
+use Rattle.sheet_tables.proofs.TableRows.{filled-on}
 use Rattle.sheet_tables.proofs.table.write_row.Statement.{statement}
 use Rattle.sheet_tables.proofs.table.write_row.Tie as tie
 
-abbrev Inv-loop : tie.InvT-loop
-Inv-loop sheet n offset i out₀ at j₀ out j =
-    (j ≤ n)
-    × (length out ≡ length out₀)
-    × ((base : List ℕ) → n * n ≤ length base → out₀ ≡ filled (i * n) (table-rule sheet n offset) base
-    → out ≡ filled (i * n + j) (table-rule sheet n offset) base)
+-- the row ends in the buffer
+ends : (c : tie.Start) → (let a = c .args in a .i * a .n + a .n ≤ length (a .out .now))
+ends c =
+    let a = c .args in
+    let l : a .i + 1 ≤ a .n = omega arith in
+    omega (arith, mul-le-mul-right (a .n) l)
 
-abbrev μ-loop : tie.MeasureT-loop
-μ-loop sheet n offset i out₀ at j₀ out j = n - j
+mul-at : tie.Need-mul-at
+mul-at c = omega (arith, ends (c .before .before))
 
-mul-at : tie.Need-mul-at Inv-loop μ-loop
-mul-at c = let a = c .before .before .args in omega (arith, row-small (a .n) (a .i) (omega arith) (omega arith))
+mul-write-row : tie.Need-mul-write-row
+mul-write-row c = omega (arith, ends (c .before .before))
 
-loop-holds : tie.Need-loop-holds Inv-loop μ-loop
-loop-holds c =
-    let a = c .before .before .args in
-    let rule = table-rule (a .sheet .now) (a .n) (a .offset) in
-    let here : a .i * a .n ≡ a .i * a .n + 0 = omega arith in
-    (omega arith, refl, λ base l e. e ∙ ap (λ k. filled k rule base) here)
+sub-write-row : tie.Need-sub-write-row
+sub-write-row c = omega (arith, ends (c .before .before))
 
-table-cell-requires : tie.Need-table-cell-requires Inv-loop μ-loop
-table-cell-requires c κs = search needs
+part-write-row-start : tie.Need-part-write-row-start
+part-write-row-start c = omega (arith, ends (c .before .before))
 
-add-out : tie.Need-add-out Inv-loop μ-loop
-add-out c =
-    let a = c .before .before .before .before .before .args in
-    omega (arith, row-small (a .n) (a .i) (omega arith) (omega arith))
+part-write-row-end : tie.Need-part-write-row-end
+part-write-row-end c = search needs
 
-mul-out : tie.Need-mul-out Inv-loop μ-loop
-mul-out c =
-    let a = c .before .before .before .before .before .args in
-    omega (arith, row-small (a .n) (a .i) (omega arith) (omega arith))
+write-row-requires : tie.Need-write-row-requires
+write-row-requires c κs = search needs
 
-slice-write-out : tie.Need-slice-write-out Inv-loop μ-loop
-slice-write-out c =
-    let a = c .before .before .before .before .before .args in
-    omega (arith, place (a .n) (a .i) (c .before .before .loop .j) (omega arith) (omega arith))
-
-add-j : tie.Need-add-j Inv-loop μ-loop
-add-j c = search needs
-
-loop-less : tie.Need-loop-less Inv-loop μ-loop
-loop-less c = search needs
-
-loop-again : tie.Need-loop-again Inv-loop μ-loop
-loop-again c =
-    let a = c .before .before .before .before .before .args in
-    let l = c .before .before .loop in
-    let S = a .sheet .now in
-    let k = a .i * a .n + l .j in
-    let below = place (a .n) (a .i) (l .j) (omega arith) (omega arith) in
-    let e : a .i * a .n + (l .j + 1) ≡ k + 1 = omega arith in
-    let here : table-rule S (a .n) (a .offset) k ≡ mirrored (a .n) (cells S (a .n) (a .offset)) (a .i) (l .j) =
-    rw (row-of (a .n) (a .i) (l .j) (omega arith), column-of (a .n) (a .i) (l .j) (omega arith)) in (
-      omega arith,
-      simp length-set (l .inv .1),
-      λ base h b. rw e
-          (filled-more (table-rule S (a .n) (a .offset)) base {n = k} (l .inv .2 base h b) (omega arith)
-          (c .table-cell .ensures ∙ sym here)),
-    )
-
-same-length : tie.Need-same-length Inv-loop μ-loop
+same-length : tie.Need-same-length
 same-length c = search needs
 
-returns : tie.Need-returns Inv-loop μ-loop
+-- the row as it was written into the part
+module _ (c : tie.After-write-row) where
+  abbrev a : tie.Start
+  a = c .before .before .before .before
+
+  abbrev part : List ℕ
+  part =
+      take (length (a .args .out .now) - a .args .i * a .args .n) (drop (a .args .i * a .args .n) (a .args .out .now))
+
+  enough : a .args .n ≤ length part
+  enough =
+      let at = a .args .i * a .args .n in
+      omega (arith, ends a, mid-len at (length (a .args .out .now)) (a .args .out .now) (omega arith))
+
+  row-put :
+      c .write-row .last .1 .1 .1 .0
+      ≡ filled (a .args .n) (mirrored (a .args .n) (packed-cells (a .args .n) (a .args .packed .now)) (a .args .i)) part
+  row-put = c .write-row .ensures ∙ row-read _ _ (a .pre .0) _ part (a .pre .1) enough
+
+returns : tie.Need-returns
 returns c =
-    let a = c .before .before .before .before .args in
-    let l = c .before .loop in
-    let e : l .j ≡ a .n = omega arith in
-    record { long = l .inv .1; row = λ out h b. rw e at (l .inv .2 out h b) }
+    let put = c .before .before in
+    let a = put .before .before .before .before .args in
+    let xs = a .out .now in
+    let at = a .i * a .n in
+    let cells = packed-cells (a .n) (a .packed .now) in
+    let k = length xs - at in
+    let same : (j : ℕ) → j < a .n → mirrored (a .n) cells (a .i) j ≡ table-rule (a .n) cells (at + j) =
+    λ j l. rw (row-of (a .n) (a .i) j l, column-of (a .n) (a .i) j l) in
+    record {
+      long =
+          same-len-mid at k xs (put .write-row .last .1 .1 .1 .0)
+          (ap length (row-put put) ∙ length-filled _ _ (a .n) (enough put));
+      row = λ base h e.
+          rw (row-put put) (filled-on at (a .n) k (table-rule (a .n) cells) _ base xs e (enough put) same);
+    }
 
 pub write-row-spec : {M : Type 1} → statement M
 write-row-spec =
     tie.close
     (tie.spec
-    Inv-loop
-    μ-loop
     mul-at
-    loop-holds
-    table-cell-requires
-    add-out
-    mul-out
-    slice-write-out
-    add-j
-    loop-less
-    loop-again
+    mul-write-row
+    sub-write-row
+    part-write-row-start
+    part-write-row-end
+    write-row-requires
     same-length
     returns)

@@ -7,16 +7,17 @@ use borrow.Author.Needs.{needs}
 use lib.ListN.{length}
 use Rattle.base.specs.Lists.{filled}
 use Rattle.base.proofs.Filling.{filled-none}
+use Rattle.packed_tables.specs.Packed.{packed-cells}
 use Rattle.sheet_tables.specs.Steps.{table-rule}
 use Rattle.sheet_tables.proofs.table.write_table.Statement.{statement}
 use Rattle.sheet_tables.proofs.table.write_table.Tie as tie
 
 abbrev Inv-loop : tie.InvT-loop
-Inv-loop sheet n offset out₀ i₀ out i =
-    (i ≤ n) × (length out ≡ length out₀) × (out ≡ filled (i * n) (table-rule sheet n offset) out₀)
+Inv-loop n packed out₀ i₀ out i =
+    (i ≤ n) × (length out ≡ length out₀) × (out ≡ filled (i * n) (table-rule n (packed-cells n packed)) out₀)
 
 abbrev μ-loop : tie.MeasureT-loop
-μ-loop sheet n offset out₀ i₀ out i = n - i
+μ-loop n packed out₀ i₀ out i = n - i
 
 loop-holds : tie.Need-loop-holds Inv-loop μ-loop
 loop-holds c = (omega arith, refl, rw (zero-mul (c .before .before .args .n)) (sym (filled-none _ _)))

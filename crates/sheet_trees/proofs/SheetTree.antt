@@ -1,37 +1,29 @@
 -- The table of a sheet on its way to our own rebuild: a sheet accepted with one room is accepted with any other that is
--- enough, its table stands at the front of the cells lent for it, and our own rebuild refuses it with 6 alone.
+-- enough, and our own rebuild refuses it with 6 alone, as a table and where it stands.
 use mathlib.Core.Path.{_≡_, _∙_}
 use mathlib.Core.Option.{Option, none}
 use mathlib.Core.List.{List, _∷_}
-use Prim.Native.Nat.{ℕ, _-_, _*_, _/_, _%_, _≤_}
-use native.Mathlib.Nat.{mul-le-mul}
-use lib.ListN.{length, take}
-use lib.Seq.{take-at}
-use Rattle.base.proofs.Lists.{length-tab}
-use Rattle.limits.specs.Limits.{most-leaves, IsLeafCount}
+use Prim.Native.Nat.{ℕ, _+_, _-_, _*_, _≤_}
+use native.Mathlib.Omega.{arith}
+use lib.ListN.{length, take, drop}
+use Rattle.limits.specs.Limits.{IsLeafCount}
 use Rattle.refusals.specs.declared.Refusal.{Refusal}
-use Rattle.refusals.specs.Refusals.{first-refusal, written}
-use Rattle.refusals.proofs.Answers.{judged-on, judged-none, unless-passed, written-done}
+use Rattle.refusals.specs.Refusals.{first-refusal}
+use Rattle.refusals.proofs.Answers.{judged-on, judged-none, unless-passed}
 use Rattle.trees.specs.Tables.{IsTable, cells-refusal}
 use Rattle.listings.specs.Sizes.{count-refusal, room-refusal}
 use Rattle.listings.proofs.ListingRefusal.{room-passes}
 use Rattle.table_checks.specs.Operations.{table-refusal}
 use Rattle.table_checks.proofs.TableRefusal.{cells-left}
-use Rattle.reconstruct.specs.Operations.{rebuild-answer}
-use Rattle.sheets.specs.Sheets.{leaves-of, offset-of, cells-of}
+use Rattle.packed_tables.specs.Packed.{table-with}
+use Rattle.packed_tables.proofs.PackedIsTable.{sheet-is-table}
+use Rattle.reconstruct.specs.Operations.{rebuild-answer, packed-answer}
+use Rattle.reconstruct.proofs.GuidedRefusal.{none-refused}
+use Rattle.sheets.specs.Sheets.{cell-bytes, leaves-of, offset-of, cells-of}
 use Rattle.sheets.specs.Operations.{sheet-ends-refusal, sheet-length-refusal, kept-sheet-refusal, sheet-refusal}
 use Rattle.sheets.proofs.SheetRefusal.{Accepted, accepted-sheet}
-use Rattle.sheet_tables.specs.Operations.{mirrored, table-with, sheet-table-answer}
-use Rattle.sheet_tables.proofs.SheetIsTable.{sheet-is-table}
+use Rattle.sheet_tables.proofs.PackedSheet.{bytes-long, sheet-cells}
 use Rattle.sheet_trees.specs.Operations.{sheet-tree}
-
--- the cells of a table, and the most
-pub table-long : (n : ℕ) (c : List ℕ) → length (table-with n c) ≡ n * n
-unfolding table-with
-table-long n c = length-tab (n * n) (λ k. mirrored n c (k / n) (k % n))
-
-few-cells : (n : ℕ) → IsLeafCount n → n * n ≤ most-leaves * most-leaves
-few-cells n c = mul-le-mul (c .1) (c .1)
 
 -- a table with a zero diagonal and equal halves passes the checks placed before 6
 wrong-none : (n : ℕ) (t : List ℕ) → IsTable n t → cells-refusal n t ≡ none
@@ -65,17 +57,6 @@ module _ (S : List ℕ) (due room : ℕ) (h : sheet-refusal S due room ≡ none)
       ∙ room-passes _ d r enough
       ∙ judged-none (room-refusal due room) _ (c .1) .1
 
-  -- its table stands at the front of the cells lent for it
-  pub cells-lent :
-      (out : List ℕ) → length out ≡ most-leaves * most-leaves
-      → take (leaves-of S * leaves-of S) (written (sheet-table-answer S (length out)) out)
-      ≡ table-with (leaves-of S) (cells-of S)
-  unfolding sheet-table-answer
-  cells-lent out e =
-      let n = leaves-of S in
-      let fine = other-room (n * n) (length out) (rw e (few-cells n (accepted-here .count))) in
-      rw (written-done _ _ out fine) (take-at (table-with n (cells-of S)) _ (n * n) (table-long n (cells-of S)))
-
 -- our own rebuild of it
 pub rebuilt-alone :
     (S : List ℕ) (room : ℕ) → sheet-refusal S (2 * (leaves-of S - 2)) room ≡ none
@@ -85,3 +66,16 @@ rebuilt-alone S room h =
     let n = leaves-of S in
     let a = accepted-here S (2 * (n - 2)) room h in
     unless-passed _ _ (table-passes n _ _ room (a .count) (sheet-is-table n (cells-of S)) (a .room-enough))
+
+-- and where it stands, in the bytes from the offset to the trailer
+pub rebuilt-in-place :
+    (S : List ℕ) (room : ℕ) {n o : ℕ} → n ≡ leaves-of S → o ≡ offset-of S
+    → sheet-refusal S (2 * (leaves-of S - 2)) room ≡ none
+    → packed-answer n (take (o + cell-bytes n - o) (drop o S)) room ≡ sheet-tree S
+unfolding packed-answer sheet-tree
+rebuilt-in-place S room {n} {o} e f h =
+    let a = accepted-here S (2 * (leaves-of S - 2)) room h in
+    let inside : o + cell-bytes n ≤ length S = rw (e, f) (omega (arith, a .sum)) in
+    let B = take (o + cell-bytes n - o) (drop o S) in
+    unless-passed _ _ (none-refused n B room (rw e (a .count)) (bytes-long S n o inside) (rw e (a .room-enough)))
+    ∙ rw (sheet-cells S e f inside, e)

@@ -1,10 +1,10 @@
--- `sheet_tables::table::cells_before` meets its contract: the rows before row i hold i n − i (i + 1) / 2 cells.
+-- `packed_tables::reading::cells_before` meets its contract: the rows before row i hold i n − i (i + 1) / 2 cells.
 use mathlib.Core.Path.{sym}
 use native.Mathlib.Omega.{arith}
 use borrow.Author.Needs.{needs}
-use Rattle.sheet_tables.proofs.CellPlaces.{place-is, row-small, half-below}
-use Rattle.sheet_tables.proofs.table.cells_before.Statement.{statement}
-use Rattle.sheet_tables.proofs.table.cells_before.Tie as tie
+use Rattle.packed_tables.proofs.CellPlaces.{place-is, row-small, half-below}
+use Rattle.packed_tables.proofs.reading.cells_before.Statement.{statement}
+use Rattle.packed_tables.proofs.reading.cells_before.Tie as tie
 
 mul-result : tie.Need-mul-result
 mul-result c = let a = c .args in omega (arith, row-small (a .n) (a .i) (omega arith) (omega arith))

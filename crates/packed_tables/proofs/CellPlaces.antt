@@ -1,14 +1,17 @@
--- Where cell (i, j) stands among those above the diagonal, by a product, and that this is below P(n); and that the
--- products are small.
+-- Where cell (i, j) stands among those above the diagonal, by a product, and that this is below P(n); that the products
+-- are small; and the two bytes of a cell.
 use mathlib.Core.Path.{_≡_}
+use mathlib.Core.List.{List}
 use Prim.Native.Nat.{ℕ, zero, suc, _+_, _-_, _*_, _/_, _≤_, _<_}
 use native.Mathlib.Nat.{mul-le-mul, mul-le-mul-left}
 use native.Mathlib.Omega.{arith}
+use lib.ListN.{getD}
 use Rattle.base.specs.Numbers.{sum-below}
+use Rattle.base.proofs.Lists.{getD-tab}
 use Rattle.limits.specs.Limits.{most-leaves}
 use Rattle.pair_counts.specs.Pairs.{P}
 use Rattle.pair_counts.proofs.Pairs.{P-suc}
-use Rattle.sheet_tables.specs.Operations.{cells-before}
+use Rattle.packed_tables.specs.Packed.{cells-before, packed-cells}
 
 -- the cells of the rows before row i, by a product
 abbrev rows : ℕ → ℕ → ℕ
@@ -46,3 +49,10 @@ module _ (n i : ℕ) (few : n ≤ most-leaves) (h : i < n) where
 
   pub half-below : i * (i + 1) ≤ i * n
   half-below = let l : i + 1 ≤ n = omega arith in mul-le-mul-left i l
+
+-- the cell at place k is byte 2k and byte 2k + 1
+pub cell-in-bytes :
+    (n : ℕ) (B : List ℕ) (k : ℕ) → k < P n
+    → getD (packed-cells n B) k 0 ≡ getD B (2 * k) 0 + 256 * getD B (2 * k + 1) 0
+unfolding packed-cells
+cell-in-bytes n B k h = getD-tab (P n) (λ k. getD B (2 * k) 0 + 256 * getD B (2 * k + 1) 0) k 0 h

@@ -1,0 +1,3 @@
+pub mod CellPlaces
+pub mod PackedIsTable
+pub mod Sizes

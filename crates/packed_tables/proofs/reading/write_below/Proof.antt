@@ -1,0 +1,70 @@
+-- `packed_tables::reading::write_below` meets its contract. The loop's invariant: the cells passed are filled in.
+use mathlib.Core.Path.{_≡_, refl, sym, _∙_}
+use Prim.Native.Nat.{_-_, _≤_}
+use native.Mathlib.Omega.{arith}
+use borrow.Author.Needs.{needs}
+use lib.ListN.{length, length-set}
+use Rattle.base.specs.Lists.{filled}
+use Rattle.base.proofs.Filling.{filled-none, filled-more}
+use Rattle.packed_tables.specs.Packed.{mirrored, packed-cells}
+use Rattle.packed_tables.proofs.PackedIsTable.{below-diagonal}
+use Rattle.packed_tables.proofs.reading.write_below.Statement.{statement}
+use Rattle.packed_tables.proofs.reading.write_below.Tie as tie
+
+abbrev Inv-loop : tie.InvT-loop
+Inv-loop n packed i out₀ j₀ out j =
+    (j ≤ i) × (length out ≡ length out₀) × (out ≡ filled j (mirrored n (packed-cells n packed) i) out₀)
+
+abbrev μ-loop : tie.MeasureT-loop
+μ-loop n packed i out₀ j₀ out j = i - j
+
+loop-holds : tie.Need-loop-holds Inv-loop μ-loop
+loop-holds c = (omega arith, refl, sym (filled-none _ _))
+
+cell-above-requires : tie.Need-cell-above-requires Inv-loop μ-loop
+cell-above-requires c κs = search needs
+
+mul-out : tie.Need-mul-out Inv-loop μ-loop
+mul-out c = search needs
+
+slice-write-out : tie.Need-slice-write-out Inv-loop μ-loop
+slice-write-out c = search needs
+
+add-j : tie.Need-add-j Inv-loop μ-loop
+add-j c = search needs
+
+loop-less : tie.Need-loop-less Inv-loop μ-loop
+loop-less c = search needs
+
+loop-again : tie.Need-loop-again Inv-loop μ-loop
+loop-again c =
+    let l = c .before .before .loop in
+    let a = c .before .before .before .before .before .args in
+    let cells = packed-cells (a .n) (a .packed .now) in
+    let cell = c .cell-above .ensures ∙ sym (below-diagonal (a .n) cells (a .i) (l .j) (omega arith)) in
+    (omega arith, simp length-set (l .inv .1), filled-more _ _ (l .inv .2) (omega arith) cell)
+
+same-length : tie.Need-same-length Inv-loop μ-loop
+same-length c = search needs
+
+returns : tie.Need-returns Inv-loop μ-loop
+returns c =
+    let l = c .before .loop in
+    let e : l .j ≡ c .before .before .before .before .args .i = omega arith in
+    rw e at (l .inv .2)
+
+pub write-below-spec : {M : Type 1} → statement M
+write-below-spec =
+    tie.close
+    (tie.spec
+    Inv-loop
+    μ-loop
+    loop-holds
+    cell-above-requires
+    mul-out
+    slice-write-out
+    add-j
+    loop-less
+    loop-again
+    same-length
+    returns)
