@@ -12,9 +12,8 @@ use native.Mathlib.Decide.{decLt, ℕ-discrete}
 use lib.Dec.{eqb}
 use lib.ListN.{length, getD, set, replicate, length-set, length-replicate, getD-replicate}
 use lib.Seq.{getD-set-same, getD-set-other}
-use Rattle.base.specs.Lists.{any-in, tab}
+use Rattle.base.specs.Lists.{any-in}
 use Rattle.base.proofs.Bools.{never, or-neither, eqb-same}
-use Rattle.base.proofs.Lists.{getD-tab}
 use Rattle.limits.specs.Limits.{most-leaves, IsLeafCount}
 use Rattle.pair_counts.specs.Pairs.{P}
 use Rattle.pair_counts.proofs.Pairs.{P-one, P-le, P-mono, most-pairs}
@@ -23,7 +22,8 @@ use Rattle.trees.specs.Listings.{child, rules-refusal-from, rules-refusal, Keep
 use Rattle.trees.proofs.Trees.{size-node}
 use Rattle.trees.proofs.Rules.{child-in, place-keeps, place-kept}
 use Rattle.trees.proofs.SubtreesByRow.{subtree-at-leaf}
-use Rattle.tree_tables.specs.Orders.{most-numbers, most-sum, row-first, row-second, Prepared, at, level, Stands}
+use Rattle.tree_tables.specs.Orders.{most-numbers, most-sum, row-first, row-second, Prepared, whole, depth, at}
+use Rattle.tree_tables.specs.Orders.{Stands}
 use Rattle.tree_tables.specs.Orders.{Laid, HungRow, Hung}
 use Rattle.tree_tables.proofs.Children.{Row, row-subtree-at, size-le}
 
@@ -95,15 +95,6 @@ module _ (xs : List ℕ) (a b v w : ℕ) where
 pub pairs-small : (k : ℕ) → k ≤ most-leaves → P k ≤ most-sum
 pairs-small k l = omega (arith, P-mono k most-leaves l, most-pairs)
 
--- the pair counts, and what `with_pairs` asks to add one of them to 0
-pub count-of : {counts : List ℕ} → counts ≡ tab (most-leaves + 1) P → (k : ℕ) → k ≤ most-leaves → at counts k ≡ P k
-count-of e k l = rw e (getD-tab (most-leaves + 1) P k 0 (omega arith))
-
-pub pairs-alone :
-    {counts : List ℕ} → counts ≡ tab (most-leaves + 1) P → (k : ℕ) → k ≤ most-leaves
-    → (k ≤ most-leaves) × (0 + at counts k ≤ most-sum)
-pairs-alone e k l = (l, omega (arith, count-of e k l, pairs-small k l))
-
 -- A row whose children a and b are read, and which is next.
 pub record Next (n : ℕ) (l sizes counts places aboves befores : List ℕ) (c a b : ℕ) : Type 0 where
   pub asked : Prepared n l sizes counts
@@ -145,21 +136,6 @@ module _ {n : ℕ} {l sizes counts places aboves befores : List ℕ} {c a b : �
   pub in-place : at places c + (at sizes a + at sizes b) ≤ n
   in-place = omega (arith, f .hung .inside c (f .high), total, x-is, y-is)
 
-  count-is : (k : ℕ) → k ≤ n → at counts k ≡ P k
-  count-is k h = count-of (f .asked .counted) k (omega (arith, f .asked .leaf-count .1))
-
-  x-count : at counts (at sizes a) ≡ P (size A)
-  x-count = count-is (at sizes a) (omega (arith, in-place)) ∙ ap P x-is
-
-  y-count : at counts (at sizes b) ≡ P (size B)
-  y-count = count-is (at sizes b) (omega (arith, in-place)) ∙ ap P y-is
-
-  whole-count : at counts n ≡ P n
-  whole-count = count-is n (omega arith)
-
-  rest-count : at counts (n - (at sizes a + at sizes b)) ≡ P (n - (size A + size B))
-  rest-count = count-is (n - (at sizes a + at sizes b)) (omega arith) ∙ rw (x-is, y-is)
-
   -- all that branches off is small
   branches : at aboves c + (P (size A) + P (size B)) ≤ P n
   branches = omega (arith, f .hung .small c (f .high), ap P total, P-le (size A) (size B))
@@ -167,39 +143,20 @@ module _ {n : ℕ} {l sizes counts places aboves befores : List ℕ} {c a b : �
   all-small : P n ≤ most-sum
   all-small = pairs-small n (f .asked .leaf-count .1)
 
-  -- what `with_pairs` asks
-  pub pairs-first : (at sizes b ≤ most-leaves) × (at aboves c + at counts (at sizes b) ≤ most-sum)
-  pairs-first = (
-    omega (arith, in-place, f .asked .leaf-count .1),
-    omega (arith, branches, y-count, all-small),
-  )
+  pub above-small : at aboves c ≤ most-sum
+  above-small = omega (arith, branches, all-small)
 
-  pub pairs-second : (at sizes a ≤ most-leaves) × (at aboves c + at counts (at sizes a) ≤ most-sum)
-  pairs-second = (
-    omega (arith, in-place, f .asked .leaf-count .1),
-    omega (arith, branches, x-count, all-small),
-  )
+  -- the sums: of the first child, of the second, and the pairs outside
+  module _ {ua ub rest : ℕ} (ha : ua ≡ at aboves c + P (at sizes b)) (hb : ub ≡ at aboves c + P (at sizes a))
+      (hr : rest ≡ 0 + P (n - (at sizes a + at sizes b))) where
+    pub sums-small : ua + ub ≤ whole
+    sums-small = omega (arith, branches, ap P x-is, ap P y-is, all-small)
 
-  pub pairs-all : (n ≤ most-leaves) × (0 + at counts n ≤ most-sum)
-  pairs-all = pairs-alone (f .asked .counted) n (f .asked .leaf-count .1)
+    pub rest-small : rest ≤ most-sum
+    rest-small = omega (arith, P-mono (n - (at sizes a + at sizes b)) n (omega arith), all-small)
 
-  pub pairs-rest :
-      (n - (at sizes a + at sizes b) ≤ most-leaves) × (0 + at counts (n - (at sizes a + at sizes b)) ≤ most-sum)
-  pairs-rest =
-      pairs-alone (f .asked .counted) (n - (at sizes a + at sizes b)) (omega (arith, f .asked .leaf-count .1))
-
-  -- the sums: of the first child, of the second, P(n), and the pairs outside
-  module _ {ua ub all rest : ℕ} (ha : ua ≡ at aboves c + at counts (at sizes b))
-      (hb : ub ≡ at aboves c + at counts (at sizes a)) (hn : all ≡ 0 + at counts n)
-      (hr : rest ≡ 0 + at counts (n - (at sizes a + at sizes b))) where
-    pub rest-le : rest ≤ all
-    rest-le = omega (arith, whole-count, rest-count, P-mono (n - (size A + size B)) n (omega arith))
-
-    pub level-small : ua + ub + (all - rest) ≤ 3 * most-sum
-    level-small = omega (arith, branches, x-count, y-count, whole-count, all-small)
-
-    level-is : ua + ub + (all - rest) ≡ level n A B (at aboves c)
-    level-is = unfold level in omega (arith, x-count, y-count, whole-count, rest-count)
+    depth-is : rest + (whole - (ua + ub)) ≡ depth n A B (at aboves c)
+    depth-is = unfold depth in rw (← x-is, ← y-is) (omega arith)
 
     -- after the row
     abbrev places′ : List ℕ
@@ -209,7 +166,7 @@ module _ {n : ℕ} {l sizes counts places aboves befores : List ℕ} {c a b : �
     aboves′ = stored aboves a b ua ub
 
     abbrev befores′ : List ℕ
-    befores′ = stored befores a b (at befores c) (ua + ub + (all - rest))
+    befores′ = stored befores a b (at befores c) (rest + (whole - (ua + ub)))
 
     differ : a ≢ b
     differ =
@@ -225,7 +182,7 @@ module _ {n : ℕ} {l sizes counts places aboves befores : List ℕ} {c a b : �
     kept k p u w da db s = (
       stored-other places a b (at places c) (at places c + at sizes a) k da db ∙ s .0,
       stored-other aboves a b ua ub k da db ∙ s .1,
-      stored-other befores a b (at befores c) (ua + ub + (all - rest)) k da db ∙ s .2,
+      stored-other befores a b (at befores c) (rest + (whole - (ua + ub))) k da db ∙ s .2,
     )
 
     -- a number that is a child of this row, or not
@@ -239,8 +196,9 @@ module _ {n : ℕ} {l sizes counts places aboves befores : List ℕ} {c a b : �
         Stands (at places′) (at aboves′) (at befores′) a (at places c) (at aboves c + P (size B)) (at befores c)
     first-stands = (
       stored-first places a b (at places c) (at places c + at sizes a) differ (fits places (f .hung .places-long)),
-      stored-first aboves a b ua ub differ (fits aboves (f .hung .aboves-long)) ∙ omega (arith, y-count),
-      stored-first befores a b (at befores c) (ua + ub + (all - rest)) differ (fits befores (f .hung .befores-long)),
+      stored-first aboves a b ua ub differ (fits aboves (f .hung .aboves-long)) ∙ omega (arith, ap P y-is),
+      stored-first befores a b (at befores c) (rest + (whole - (ua + ub))) differ
+          (fits befores (f .hung .befores-long)),
     )
       where
         fits : (xs : List ℕ) → length xs ≡ most-numbers → a < length xs
@@ -248,13 +206,13 @@ module _ {n : ℕ} {l sizes counts places aboves befores : List ℕ} {c a b : �
 
     second-stands :
         Stands (at places′) (at aboves′) (at befores′) b (at places c + size A) (at aboves c + P (size A))
-        (level n A B (at aboves c))
+        (depth n A B (at aboves c))
     second-stands = (
       stored-second places a b (at places c) (at places c + at sizes a) (fits places (f .hung .places-long))
           ∙ omega (arith, x-is),
-      stored-second aboves a b ua ub (fits aboves (f .hung .aboves-long)) ∙ omega (arith, x-count),
-      stored-second befores a b (at befores c) (ua + ub + (all - rest)) (fits befores (f .hung .befores-long))
-          ∙ level-is,
+      stored-second aboves a b ua ub (fits aboves (f .hung .aboves-long)) ∙ omega (arith, ap P x-is),
+      stored-second befores a b (at befores c) (rest + (whole - (ua + ub))) (fits befores (f .hung .befores-long))
+          ∙ depth-is,
     )
       where
         fits : (xs : List ℕ) → length xs ≡ most-numbers → b < length xs
@@ -295,7 +253,7 @@ module _ {n : ℕ} {l sizes counts places aboves befores : List ℕ} {c a b : �
       places-long = stored-length places a b (at places c) (at places c + at sizes a) ∙ f .hung .places-long;
       aboves-long = stored-length aboves a b ua ub ∙ f .hung .aboves-long;
       befores-long =
-          stored-length befores a b (at befores c) (ua + ub + (all - rest)) ∙ f .hung .befores-long;
+          stored-length befores a b (at befores c) (rest + (whole - (ua + ub))) ∙ f .hung .befores-long;
       inside = λ d h. elim (ℕ-discrete d a) [
         | yes e ↦ rw (e, first-stands .0) (omega (arith, in-place, x-is, y-is))
         | no da ↦ elim (ℕ-discrete d b) [
@@ -331,8 +289,8 @@ module _ {n : ℕ} {l sizes counts places aboves befores : List ℕ} {c a b : �
             )
 
 -- before the first row: the last number has its place, and leaf 0
-module _ (n : ℕ) (l : List ℕ) (count : IsLeafCount n) (keeps : KeepsRules n l) (all others : ℕ) (ea : all ≡ P n)
-    (eo : others ≡ P (n - 1)) (under-zero : size (subtree-at n l (2 * n - 3)) ≡ n - 1) where
+module _ (n : ℕ) (l : List ℕ) (count : IsLeafCount n) (keeps : KeepsRules n l) (others : ℕ) (eo : others ≡ P (n - 1))
+    (under-zero : size (subtree-at n l (2 * n - 3)) ≡ n - 1) where
   abbrev zeros : List ℕ
   zeros = replicate most-numbers 0
 
@@ -364,11 +322,11 @@ module _ (n : ℕ) (l : List ℕ) (count : IsLeafCount n) (keeps : KeepsRules n 
 
   pub hung-start :
       Hung n l (stored zeros (2 * n - 3) 0 1 0) (stored zeros (2 * n - 3) 0 0 others)
-      (stored zeros (2 * n - 3) 0 (others + all) 0) (2 * n - 2)
+      (stored zeros (2 * n - 3) 0 (whole - others) 0) (2 * n - 2)
   hung-start = record {
     places-long = stored-length zeros (2 * n - 3) 0 1 0 ∙ zeros-long;
     aboves-long = stored-length zeros (2 * n - 3) 0 0 others ∙ zeros-long;
-    befores-long = stored-length zeros (2 * n - 3) 0 (others + all) 0 ∙ zeros-long;
+    befores-long = stored-length zeros (2 * n - 3) 0 (whole - others) 0 ∙ zeros-long;
     inside =
         each (λ d p. p + size (subtree-at n l d) ≤ n) 1 0 (omega (arith, under-zero)) (omega (arith, leaf-zero))
         (λ d h. omega (arith, size-le n l d count keeps h));
@@ -378,8 +336,8 @@ module _ (n : ℕ) (l : List ℕ) (count : IsLeafCount n) (keeps : KeepsRules n 
         (rw (leaf-zero, P-one, eo) (omega (arith, P-mono (n - 1) n (omega arith))))
         (λ d h. omega (arith, P-mono (size (subtree-at n l d)) n (size-le n l d count keeps h)));
     root = (
-      (zero-has 1 0, zero-has 0 others ∙ omega (arith, eo), zero-has (others + all) 0),
-      (last-has 1 0, last-has 0 others, last-has (others + all) 0 ∙ omega (arith, eo, ea)),
+      (zero-has 1 0, zero-has 0 others ∙ omega (arith, eo), zero-has (whole - others) 0),
+      (last-has 1 0, last-has 0 others, last-has (whole - others) 0 ∙ omega (arith, eo)),
     );
     rows = λ d ld hd. absurd (omega arith);
   }

@@ -1,6 +1,6 @@
--- Leaves in order: where those of a subtree stand, what branches off above each, and which level lies between two. A
--- node has a higher level than those under it, so that the highest level between two leaves is that of the node in
--- which they meet. By it, and by what branches off above the two, the sum along the path between them is found.
+-- Leaves in order: where those of a subtree stand, what branches off above each, and which depth lies between two. A
+-- node is less deep than those under it, so that the least depth between two leaves is that of the node in which they
+-- meet. By it, and by what branches off above the two, the sum along the path between them is found.
 use mathlib.Core.Path.{_≡_, refl, sym, _∙_}
 use mathlib.Core.Logic.{_⊎_, inl, inr, _≢_}
 use mathlib.Core.Bool.{true}
@@ -16,7 +16,7 @@ use Rattle.trees.proofs.Trees.{leaves-node, leaf-has, leaf-eq, size-node, apart
 use Rattle.trees.proofs.Trees.{within-left, within-right}
 use Rattle.trees.proofs.BranchedPairs.{inner-sum, inner-sum-leaf, inner-sum-left, inner-sum-right}
 use Rattle.trees.proofs.PathSums.{path-sum, path-sum-left, path-sum-right, path-sum-cross}
-use Rattle.tree_tables.specs.Orders.{at, level, Laid, Highest}
+use Rattle.tree_tables.specs.Orders.{most-sum, whole, depth, Laid, at, Shallowest}
 
 -- the size of a leaf
 pub leaf-size : (k : ℕ) → size (leaf k) ≡ 1
@@ -34,7 +34,7 @@ module _ (n : ℕ) (place above before : ℕ → ℕ) where
         let r = place-in A p (u + P (size B)) w (h .0) k a in
         (r .0, omega (arith, r .1))
     | inr b ↦
-        let r = place-in B (p + size A) (u + P (size A)) (level n A B u) (h .1) k b in
+        let r = place-in B (p + size A) (u + P (size A)) (depth n A B u) (h .1) k b in
         (omega (arith, r .0), omega (arith, r .1))
   ])
 
@@ -49,7 +49,7 @@ module _ (n : ℕ) (place above before : ℕ → ℕ) where
         (r .0, rw leaves-node (or-left _ _ (r .1)), r .2)
     | no g ↦
         let r =
-        leaf-at B (p + size A) (u + P (size A)) (level n A B u) (h .1) t (omega arith)
+        leaf-at B (p + size A) (u + P (size A)) (depth n A B u) (h .1) t (omega arith)
         (omega (arith, size-node A B)) in
         (r .0, rw leaves-node (or-right (leaves A (r .0)) _ (r .1)), r .2)
   ]
@@ -67,7 +67,7 @@ module _ (n : ℕ) (place above before : ℕ → ℕ) where
         ]
         | inr bj ↦ elim (or-cases (leaves A k) (leaves B k) (rw leaves-node at tk)) [
           | inl ak ↦ absurd (omega (arith, in-a k ak, in-b j bj))
-          | inr bk ↦ place-once B (p + size A) (u + P (size A)) (level n A B u) (h .1) j k bj bk e
+          | inr bk ↦ place-once B (p + size A) (u + P (size A)) (depth n A B u) (h .1) j k bj bk e
         ]
       ]
     where
@@ -75,7 +75,7 @@ module _ (n : ℕ) (place above before : ℕ → ℕ) where
       in-a i t = place-in A p (u + P (size B)) w (h .0) i t .1
 
       in-b : (i : ℕ) → leaves B i ≡ true → p + size A ≤ place i
-      in-b i t = place-in B (p + size A) (u + P (size A)) (level n A B u) (h .1) i t .0
+      in-b i t = place-in B (p + size A) (u + P (size A)) (depth n A B u) (h .1) i t .0
 
   -- what branches off above a leaf
   pub above-in :
@@ -88,78 +88,68 @@ module _ (n : ℕ) (place above before : ℕ → ℕ) where
         (omega (arith, above-in A p (u + P (size B)) w (h .0) (d .0) k a))
     | inr b ↦
         rw (inner-sum-right A B k (apart-sym A B (d .2) k b) b)
-        (omega (arith, above-in B (p + size A) (u + P (size A)) (level n A B u) (h .1) (d .1) k b))
+        (omega (arith, above-in B (p + size A) (u + P (size A)) (depth n A B u) (h .1) (d .1) k b))
   ]
 
--- the levels before the leaves may be given in another way
+-- the depths before the leaves may be given in another way
 pub laid-same :
     (n : ℕ) (place above before before′ : ℕ → ℕ) → ((k : ℕ) → k < n → before′ k ≡ before k) → (Z : Tree) (p u w : ℕ)
     → Within n Z → Laid n place above before Z p u w → Laid n place above before′ Z p u w
 laid-same n place above before before′ e (leaf x) p u w s h = (h .0, h .1, e x (s x (leaf-has x)) ∙ h .2)
 laid-same n place above before before′ e (node A B) p u w s h = (
   laid-same n place above before before′ e A p (u + P (size B)) w (within-left n A B s) (h .0),
-  laid-same n place above before before′ e B (p + size A) (u + P (size A)) (level n A B u) (within-right n A B s)
+  laid-same n place above before before′ e B (p + size A) (u + P (size A)) (depth n A B u) (within-right n A B s)
       (h .1),
 )
 
--- Levels: `top` is the highest that a node can have over s leaves.
-unfoldable top : (n s u : ℕ) → ℕ
-top n s u = u + u + P s + (P n - P (n - s))
+-- Depths: no node over s leaves is less deep than this.
+unfoldable floor : (n s u : ℕ) → ℕ
+floor n s u = P (n - s) + (whole - (u + u + P s))
 
-level-le : (n : ℕ) (A B : Tree) (u : ℕ) → level n A B u ≤ top n (size (node A B)) u
-unfolding level top
-level-le n A B u = rw size-node (omega (arith, P-le (size A) (size B)))
+depth-ge : (n : ℕ) (A B : Tree) (u : ℕ) → floor n (size (node A B)) u ≤ depth n A B u
+unfolding depth floor
+depth-ge n A B u = rw size-node (omega (arith, P-le (size A) (size B)))
 
-first-le :
-    (n : ℕ) (A B : Tree) (u : ℕ) → size A + size B ≤ n → top n (size A) (u + P (size B)) ≤ level n A B u
-unfolding level top
-first-le n A B u l =
+first-ge :
+    (n : ℕ) (A B : Tree) (u : ℕ) → size A + size B ≤ n → depth n A B u ≤ floor n (size A) (u + P (size B))
+unfolding depth floor
+first-ge n A B u l =
     let e : n - (size A + size B) + size B ≡ n - size A = omega arith in
-    omega (
-      arith,
-      rw e at (P-le (n - (size A + size B)) (size B)),
-      P-mono (n - size A) n (omega arith),
-      P-mono (n - (size A + size B)) n (omega arith),
-    )
+    omega (arith, rw e at (P-le (n - (size A + size B)) (size B)))
 
-second-le :
-    (n : ℕ) (A B : Tree) (u : ℕ) → size A + size B ≤ n → top n (size B) (u + P (size A)) ≤ level n A B u
-unfolding level top
-second-le n A B u l =
+second-ge :
+    (n : ℕ) (A B : Tree) (u : ℕ) → size A + size B ≤ n → depth n A B u ≤ floor n (size B) (u + P (size A))
+unfolding depth floor
+second-ge n A B u l =
     let e : n - (size A + size B) + size A ≡ n - size B = omega arith in
-    omega (
-      arith,
-      rw e at (P-le (n - (size A + size B)) (size A)),
-      P-mono (n - size B) n (omega arith),
-      P-mono (n - (size A + size B)) n (omega arith),
-    )
+    omega (arith, rw e at (P-le (n - (size A + size B)) (size A)))
 
-module _ (n : ℕ) (place above : ℕ → ℕ) (levels : List ℕ) where
-  -- the levels are those before the places
+module _ (n : ℕ) (small : P n ≤ most-sum) (place above : ℕ → ℕ) (depths : List ℕ) where
+  -- the depths are those before the places
   abbrev Ordered : Tree → ℕ → ℕ → ℕ → Type 0
-  Ordered Z p u w = Laid n place above (λ k. at levels (place k)) Z p u w
+  Ordered Z p u w = Laid n place above (λ k. at depths (place k)) Z p u w
 
-  -- the level before the first leaf
-  first-level : (Z : Tree) (p u w : ℕ) → Ordered Z p u w → at levels p ≡ w
-  first-level (leaf x) p u w h = rw (h .0) at (h .2)
-  first-level (node A B) p u w h = first-level A p (u + P (size B)) w (h .0)
+  -- the depth before the first leaf
+  first-depth : (Z : Tree) (p u w : ℕ) → Ordered Z p u w → at depths p ≡ w
+  first-depth (leaf x) p u w h = rw (h .0) at (h .2)
+  first-depth (node A B) p u w h = first-depth A p (u + P (size B)) w (h .0)
 
-  -- the levels within a node, from those within its children
+  -- the depths within a node, from those within its children
   Inside : Tree → ℕ → ℕ → Type 0
-  Inside Z p u = (t : ℕ) → p < t → t < p + size Z → at levels t ≤ top n (size Z) u
+  Inside Z p u = (t : ℕ) → p < t → t < p + size Z → floor n (size Z) u ≤ at depths t
 
   within-node :
       (A B : Tree) (p u w : ℕ) → Ordered (node A B) p u w → size A + size B ≤ n → Inside A p (u + P (size B))
       → Inside B (p + size A) (u + P (size A)) → (t : ℕ) → p < t → t < p + (size A + size B)
-      → at levels t ≤ level n A B u
+      → depth n A B u ≤ at depths t
   unfolding Inside
   within-node A B p u w h l ia ib t lo hi = elim (decLt t (p + size A)) [
-    | yes a ↦ omega (arith, ia t lo a, first-le n A B u l)
+    | yes a ↦ omega (arith, ia t lo a, first-ge n A B u l)
     | no g ↦ elim (decLt (p + size A) t) [
-      | yes b ↦ omega (arith, ib t b (omega arith), second-le n A B u l)
+      | yes b ↦ omega (arith, ib t b (omega arith), second-ge n A B u l)
       | no e ↦
           let here : t ≡ p + size A = omega arith in
-          rw here (omega (arith, first-level B (p + size A) (u + P (size A)) (level n A B u) (h .1)))
+          rw here (omega (arith, first-depth B (p + size A) (u + P (size A)) (depth n A B u) (h .1)))
     ]
   ]
 
@@ -169,71 +159,72 @@ module _ (n : ℕ) (place above : ℕ → ℕ) (levels : List ℕ) where
   inside (node A B) p u w h l t lo hi =
       let sum = size-node A B in
       let ia = inside A p (u + P (size B)) w (h .0) (omega (arith, sum)) in
-      let ib = inside B (p + size A) (u + P (size A)) (level n A B u) (h .1) (omega (arith, sum)) in
+      let ib = inside B (p + size A) (u + P (size A)) (depth n A B u) (h .1) (omega (arith, sum)) in
       let here = within-node A B p u w h (omega (arith, sum)) ia ib t lo (omega (arith, sum)) in
-      omega (arith, here, level-le n A B u)
+      omega (arith, here, depth-ge n A B u)
 
-  -- i stands before j, and the highest level between them tells the sum along the path from i to j
+  -- i stands before j, and the least depth between them tells the sum along the path from i to j
   pub record Meets (Z : Tree) (i j : ℕ) : Type 0 where
     pub in-order : place i < place j
-    pub sum : (m : ℕ) → Highest levels (place i) (place j) m → P n + (above i + above j) ≡ path-sum n Z i j + m
+    pub sum : (m : ℕ) → Shallowest depths (place i) (place j) m → above i + above j + m ≡ path-sum n Z i j + whole
 
   -- two leaves that meet in a node
   crossing :
       (A B : Tree) (p u w : ℕ) → Ordered (node A B) p u w → Distinct (node A B) → size A + size B ≤ n → (i j : ℕ)
-      → leaves A i ≡ true → leaves B j ≡ true → Meets (node A B) i j
-  crossing A B p u w h d l i j a b = record {
+      → leaves A i ≡ true → leaves B j ≡ true → above i ≤ most-sum → above j ≤ most-sum → Meets (node A B) i j
+  crossing A B p u w h d l i j a b si sj = record {
     in-order = omega (arith, pi .1, pj .0);
-    sum = λ m top-is.
-        let high : level n A B u ≤ m =
-        rw (first-level B (p + size A) (u + P (size A)) (level n A B u) (h .1))
-        at (top-is .bound (p + size A) (pi .1) (pj .0)) in
-        let low : m ≤ level n A B u =
-        top-is .least (level n A B u) (λ t lo hi. all t (omega (arith, pi .0)) (omega (arith, pj .1))) in
-        rw (path-sum-cross n A B i j (d .2) a b) (unfold level in omega (arith, high, low, above-i, above-j, rest));
+    sum = λ m least.
+        let low : m ≤ depth n A B u =
+        rw (first-depth B (p + size A) (u + P (size A)) (depth n A B u) (h .1))
+        at (least .bound (p + size A) (pi .1) (pj .0)) in
+        let high : depth n A B u ≤ m =
+        least .greatest (depth n A B u) (unfold depth in omega (arith, rest, small))
+        (λ t lo hi. all t (omega (arith, pi .0)) (omega (arith, pj .1))) in
+        rw (path-sum-cross n A B i j (d .2) a b) (unfold depth in omega (arith, high, low, above-i, above-j));
   }
     where
       pi : (p ≤ place i) × (place i < p + size A)
-      pi = place-in n place above (λ k. at levels (place k)) A p (u + P (size B)) w (h .0) i a
+      pi = place-in n place above (λ k. at depths (place k)) A p (u + P (size B)) w (h .0) i a
 
       pj : (p + size A ≤ place j) × (place j < p + size A + size B)
-      pj = place-in n place above (λ k. at levels (place k)) B (p + size A) (u + P (size A)) (level n A B u) (h .1) j b
+      pj = place-in n place above (λ k. at depths (place k)) B (p + size A) (u + P (size A)) (depth n A B u) (h .1) j b
 
       above-i : above i ≡ u + P (size B) + inner-sum A i
-      above-i = above-in n place above (λ k. at levels (place k)) A p (u + P (size B)) w (h .0) (d .0) i a
+      above-i = above-in n place above (λ k. at depths (place k)) A p (u + P (size B)) w (h .0) (d .0) i a
 
       above-j : above j ≡ u + P (size A) + inner-sum B j
       above-j =
-          above-in n place above (λ k. at levels (place k)) B (p + size A) (u + P (size A)) (level n A B u) (h .1)
+          above-in n place above (λ k. at depths (place k)) B (p + size A) (u + P (size A)) (depth n A B u) (h .1)
           (d .1) j b
 
       rest : P (n - (size A + size B)) ≤ P n
       rest = P-mono (n - (size A + size B)) n (omega arith)
 
-      all : (t : ℕ) → p < t → t < p + (size A + size B) → at levels t ≤ level n A B u
+      all : (t : ℕ) → p < t → t < p + (size A + size B) → depth n A B u ≤ at depths t
       all =
           within-node A B p u w h l (inside A p (u + P (size B)) w (h .0) (omega arith))
-          (inside B (p + size A) (u + P (size A)) (level n A B u) (h .1) (omega arith))
+          (inside B (p + size A) (u + P (size A)) (depth n A B u) (h .1) (omega arith))
 
   -- any two leaves of a tree, in one order or the other
   pub meets :
       (Z : Tree) (p u w : ℕ) → Ordered Z p u w → Distinct Z → size Z ≤ n → (i j : ℕ) → leaves Z i ≡ true
-      → leaves Z j ≡ true → i ≢ j → Meets Z i j ⊎ Meets Z j i
-  meets (leaf x) p u w h d l i j ti tj e = absurd (e (leaf-eq i x ti ∙ sym (leaf-eq j x tj)))
-  meets (node A B) p u w h d l i j ti tj e =
+      → leaves Z j ≡ true → i ≢ j → above i ≤ most-sum → above j ≤ most-sum → Meets Z i j ⊎ Meets Z j i
+  meets (leaf x) p u w h d l i j ti tj e si sj = absurd (e (leaf-eq i x ti ∙ sym (leaf-eq j x tj)))
+  meets (node A B) p u w h d l i j ti tj e si sj =
       elim (or-cases (leaves A i) (leaves B i) (rw leaves-node at ti)) [
         | inl ai ↦ elim (or-cases (leaves A j) (leaves B j) (rw leaves-node at tj)) [
           | inl aj ↦
               within (λ x y ax ay. path-sum-left n A B x y ax ay) ai aj
-              (meets A p (u + P (size B)) w (h .0) (d .0) (omega (arith, size-node A B)) i j ai aj e)
-          | inr bj ↦ inl (crossing A B p u w h d (omega (arith, size-node A B)) i j ai bj)
+              (meets A p (u + P (size B)) w (h .0) (d .0) (omega (arith, size-node A B)) i j ai aj e si sj)
+          | inr bj ↦ inl (crossing A B p u w h d (omega (arith, size-node A B)) i j ai bj si sj)
         ]
         | inr bi ↦ elim (or-cases (leaves A j) (leaves B j) (rw leaves-node at tj)) [
-          | inl aj ↦ inr (crossing A B p u w h d (omega (arith, size-node A B)) j i aj bi)
+          | inl aj ↦ inr (crossing A B p u w h d (omega (arith, size-node A B)) j i aj bi sj si)
           | inr bj ↦
               within (λ x y bx by. path-sum-right n A B x y (apart-sym A B (d .2) x bx) bx by) bi bj
-              (meets B (p + size A) (u + P (size A)) (level n A B u) (h .1) (d .1) (omega (arith, size-node A B)) i j
-              bi bj e)
+              (meets B (p + size A) (u + P (size A)) (depth n A B u) (h .1) (d .1) (omega (arith, size-node A B)) i j
+              bi bj e si sj)
         ]
       ]
     where

@@ -2,7 +2,7 @@ pub mod Children
 pub mod LeafOrders
 pub mod Hanging
 pub mod Planned
-pub mod HighestLevels
+pub mod LeastDepths
 pub mod RowsFilled
 pub mod Signed
 pub mod Judging

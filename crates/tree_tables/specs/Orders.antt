@@ -1,7 +1,7 @@
 -- What the functions that write a tree's table promise to each other. No public contract cites it.
--- The leaves stand in an order in which those of each subtree follow one another. Between two neighbours lies the level
--- of the node in which they meet. A node has a higher level than those under it, so that of any two leaves the node in
--- which they meet has the highest level between them; their count is found from that level and from two sums.
+-- The leaves stand in an order in which those of each subtree follow one another. Between two neighbours lies the depth
+-- of the node in which they meet. A node is less deep than those under it, so that of any two leaves the node in which
+-- they meet has the least depth between them; their count is found from that depth and from two sums.
 use mathlib.Core.Path.{_≡_}
 use mathlib.Core.List.{List}
 use Prim.Native.Nat.{ℕ, _+_, _-_, _*_, _≤_, _<_}
@@ -37,12 +37,19 @@ pub record Prepared (n : ℕ) (l sizes counts : List ℕ) : Type 0 where
   pub sized : Sized n l sizes
   pub counted : counts ≡ tab (most-leaves + 1) P
 
--- the level of a node over A and B, `above` being the number of pairs that branch off on the way down to it: what
--- branches off on the way to A and to B, and the pairs of which a leaf is in A or B
-unfoldable pub level : (n : ℕ) (A B : Tree) (above : ℕ) → ℕ
-level n A B above = (above + P (size B)) + (above + P (size A)) + (P n - P (n - (size A + size B)))
+-- the depth of a node over A and B, `above` being the number of pairs that branch off on the way down to it: the pairs
+-- outside of it, and a whole less what branches off on the way to A and to B
+abbrev pub whole : ℕ
+whole = 2 * most-sum
 
--- a number's place, the pairs that branch off above it, and the level before its first leaf are p, u and w
+unfoldable pub depth : (n : ℕ) (A B : Tree) (above : ℕ) → ℕ
+depth n A B above = P (n - (size A + size B)) + (whole - ((above + P (size B)) + (above + P (size A))))
+
+-- no depth is larger
+abbrev pub most-depth : ℕ
+most-depth = 3 * most-sum
+
+-- a number's place, the pairs that branch off above it, and the depth before its first leaf are p, u and w
 abbrev pub Stands : (place above before : ℕ → ℕ) (c p u w : ℕ) → Type 0
 Stands place above before c p u w = (place c ≡ p) × (above c ≡ u) × (before c ≡ w)
 
@@ -51,7 +58,7 @@ abbrev pub Laid : (n : ℕ) (place above before : ℕ → ℕ) → Tree → (p u
 Laid n place above before (leaf k) p u w = Stands place above before k p u w
 Laid n place above before (node A B) p u w =
     Laid n place above before A p (u + P (size B)) w
-    × Laid n place above before B (p + size A) (u + P (size A)) (level n A B u)
+    × Laid n place above before B (p + size A) (u + P (size A)) (depth n A B u)
 
 -- the entries of an array
 abbrev pub at : List ℕ → ℕ → ℕ
@@ -65,7 +72,7 @@ HungRow n l places aboves befores c =
     Stands (at places) (at aboves) (at befores) (row-first n l c) (at places c) (at aboves c + P (size B))
     (at befores c)
     × Stands (at places) (at aboves) (at befores) (row-second n l c) (at places c + size A)
-    (at aboves c + P (size A)) (level n A B (at aboves c))
+    (at aboves c + P (size A)) (depth n A B (at aboves c))
 
 -- the last number and leaf 0 have their places, and so have the children of the numbers from c on
 pub record Hung (n : ℕ) (l places aboves befores : List ℕ) (c : ℕ) : Type 0 where
@@ -76,7 +83,7 @@ pub record Hung (n : ℕ) (l places aboves befores : List ℕ) (c : ℕ) : Type 
   pub small : (d : ℕ) → d < 2 * n - 2 → at aboves d + P (size (subtree-at n l d)) ≤ P n
   pub root :
       Laid n (at places) (at aboves) (at befores) (leaf 0) 0 (0 + P (n - 1)) 0
-      × Stands (at places) (at aboves) (at befores) (2 * n - 3) 1 0 (P (n - 1) + P n)
+      × Stands (at places) (at aboves) (at befores) (2 * n - 3) 1 0 (whole - P (n - 1))
   pub rows : (d : ℕ) → c ≤ d → d < 2 * n - 2 → HungRow n l places aboves befores d
 
 -- every leaf has a place of its own
@@ -85,14 +92,14 @@ pub record OwnPlaces (n : ℕ) (places : List ℕ) : Type 0 where
   pub inside : (k : ℕ) → k < n → at places k < n
   pub once : (j k : ℕ) → j < n → k < n → at places j ≡ at places k → j ≡ k
 
--- the first m leaves stand at their places, with the levels before them
-abbrev pub Placed : (n : ℕ) (places befores order levels : List ℕ) (m : ℕ) → Type 0
-Placed n places befores order levels m =
-    (k : ℕ) → k < m → (at order (at places k) ≡ k) × (at levels (at places k) ≡ at befores k)
+-- the first m leaves stand at their places, with the depths before them
+abbrev pub Placed : (places befores order depths : List ℕ) (m : ℕ) → Type 0
+Placed places befores order depths m =
+    (k : ℕ) → k < m → (at order (at places k) ≡ k) × (at depths (at places k) ≡ at befores k)
 
--- the order of the leaves of a tree, leaf 0 put on, and the levels between them
-pub record Plan (n : ℕ) (T : Tree) (places aboves order levels : List ℕ) : Type 0 where
-  pub laid : Laid n (at places) (at aboves) (λ k. at levels (at places k)) (node (leaf 0) T) 0 0 0
+-- the order of the leaves of a tree, leaf 0 put on, and the depths between them
+pub record Plan (n : ℕ) (T : Tree) (places aboves order depths : List ℕ) : Type 0 where
+  pub laid : Laid n (at places) (at aboves) (λ k. at depths (at places k)) (node (leaf 0) T) 0 0 0
   pub placed : (k : ℕ) → k < n → at order (at places k) ≡ k
   pub small : (k : ℕ) → k < n → at aboves k ≤ P n
 
@@ -102,26 +109,26 @@ pub record LeafOrder (n : ℕ) (order : List ℕ) : Type 0 where
   pub below : (s : ℕ) → s < n → at order s < n
   pub once : (s t : ℕ) → s < n → t < n → at order s ≡ at order t → s ≡ t
 
--- m is the highest of the levels between the places lo and hi
-pub record Highest (levels : List ℕ) (lo hi m : ℕ) : Type 0 where
-  pub bound : (t : ℕ) → lo < t → t ≤ hi → at levels t ≤ m
-  pub least : (z : ℕ) → ((t : ℕ) → lo < t → t ≤ hi → at levels t ≤ z) → m ≤ z
+-- m is the least of the depths between the places lo and hi
+pub record Shallowest (depths : List ℕ) (lo hi m : ℕ) : Type 0 where
+  pub bound : (t : ℕ) → lo < t → t ≤ hi → m ≤ at depths t
+  pub greatest : (z : ℕ) → z ≤ most-depth → ((t : ℕ) → lo < t → t ≤ hi → z ≤ at depths t) → z ≤ m
 
--- the highest level between place p and that of each other leaf; `own` for the leaf at p
-pub record Topped (n : ℕ) (order levels : List ℕ) (p own : ℕ) (tops : List ℕ) : Type 0 where
+-- the least depth between place p and that of each other leaf; `own` for the leaf at p
+pub record Topped (n : ℕ) (order depths : List ℕ) (p own : ℕ) (tops : List ℕ) : Type 0 where
   pub long : length tops ≡ most-leaves
   pub here : at tops (at order p) ≡ own
-  pub after : (s : ℕ) → p < s → s < n → Highest levels p s (at tops (at order s))
-  pub before : (s : ℕ) → s < p → Highest levels s p (at tops (at order s))
+  pub after : (s : ℕ) → p < s → s < n → Shallowest depths p s (at tops (at order s))
+  pub before : (s : ℕ) → s < p → Shallowest depths s p (at tops (at order s))
 
--- the count of the cell in column j: `base` is P(n) and what branches off above the row's leaf
+-- the count of the cell in column j: `base` is what branches off above the row's leaf
 abbrev pub cell-of : (base : ℕ) (aboves tops : List ℕ) → ℕ → ℕ
-cell-of base aboves tops j = base + at aboves j - at tops j
+cell-of base aboves tops j = base + at aboves j + at tops j - whole
 
 -- row i can be written
 pub record RowFits (n i base : ℕ) (aboves tops : List ℕ) (room : ℕ) : Type 0 where
   pub few : n ≤ most-leaves
   pub row : i < n
   pub enough : n * n ≤ room
-  pub covered : (j : ℕ) → j < n → at tops j ≤ base + at aboves j
-  pub fits : (j : ℕ) → j < n → base + at aboves j ≤ 3 * most-sum
+  pub covered : (j : ℕ) → j < n → whole ≤ base + at aboves j + at tops j
+  pub fits : (j : ℕ) → j < n → base + at aboves j + at tops j ≤ most-depth

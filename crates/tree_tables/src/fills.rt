@@ -1,6 +1,7 @@
 // The rows of a tree's table: written one after the other, or each taken from the same row of another table.
 use super::plans::LEAVES;
 use super::plans::NUMBERS;
+use super::plans::WHOLE;
 use super::plans::plan;
 use super::tops::find_tops;
 ghost use mathlib.Core.Path.{_≡_};
@@ -13,39 +14,37 @@ ghost use Rattle.limits.specs.Limits.{most-leaves, IsLeafCount};
 ghost use Rattle.trees.specs.Listings.{KeepsRules, tree-of};
 ghost use Rattle.trees.specs.Tables.{table-of};
 ghost use Rattle.tree_tables.specs.Operations.{gaps};
-ghost use Rattle.tree_tables.specs.Orders.{most-sum, LeafOrder, Topped, cell-of, RowFits};
+ghost use Rattle.tree_tables.specs.Orders.{most-sum, whole, most-depth, LeafOrder, Topped, cell-of, RowFits};
 
-// What the counts of row i are found from: the highest level between leaf i and each leaf, and P(n) with what branches
-// off above leaf i.
+// What the counts of row i are found from: the least depth between leaf i and each leaf, and what branches off above
+// leaf i.
 fn find_row(
     n: usize,
-    all: u32,
     places: &[usize; NUMBERS],
     aboves: &[u32; NUMBERS],
     order: &[usize; LEAVES],
-    levels: &[u32; LEAVES],
+    depths: &[u32; LEAVES],
     i: usize,
     tops: &mut [u32; LEAVES],
 ) -> u32
-    requires { ⌜ LeafOrder n (now order) × (i < n) × (getD (now places) i 0 < n) × (all ≤ most-sum)
-        × (getD (now aboves) i 0 ≤ most-sum) × (length (now tops) ≡ most-leaves) ⌝ }
-    ensures { λ r. ⌜ (r ≡ all + getD (now (aboves .entry)) i 0)
-        × Topped n (now (order .entry)) (now (levels .entry)) (getD (now (places .entry)) i 0)
-        (r + getD (now (aboves .entry)) i 0) (now (tops .exit)) ⌝ }
+    requires { ⌜ LeafOrder n (now order) × (i < n) × (getD (now places) i 0 < n) × (getD (now aboves) i 0 ≤ most-sum)
+        × (length (now tops) ≡ most-leaves) ⌝ }
+    ensures { λ r. ⌜ (r ≡ getD (now (aboves .entry)) i 0)
+        × Topped n (now (order .entry)) (now (depths .entry)) (getD (now (places .entry)) i 0) (whole - (r + r))
+        (now (tops .exit)) ⌝ }
 {
     let above = aboves[i];
-    let base = all + above;
-    find_tops(n, order, levels, places[i], base + above, tops);
-    base
+    find_tops(n, order, depths, places[i], WHOLE - (above + above), tops);
+    above
 }
 
 // The count of a cell in the column of leaf j.
 fn count_at(base: u32, aboves: &[u32; NUMBERS], tops: &[u32; LEAVES], j: usize) -> u32
-    requires { ⌜ (j < most-leaves) × (getD (now tops) j 0 ≤ base + getD (now aboves) j 0)
-        × (base + getD (now aboves) j 0 ≤ 3 * most-sum) ⌝ }
+    requires { ⌜ (j < most-leaves) × (whole ≤ base + getD (now aboves) j 0 + getD (now tops) j 0)
+        × (base + getD (now aboves) j 0 + getD (now tops) j 0 ≤ most-depth) ⌝ }
     ensures { λ r. ⌜ r ≡ cell-of base (now (aboves .entry)) (now (tops .entry)) j ⌝ }
 {
-    base + aboves[j] - tops[j]
+    base + aboves[j] + tops[j] - WHOLE
 }
 
 // Row i of the table, where the rows before it are written.
@@ -110,7 +109,7 @@ pub(crate) fn fill_table(n: usize, listing: &[u16], out: &mut [u32])
     let mut places: [usize; NUMBERS] = [0; NUMBERS];
     let mut aboves: [u32; NUMBERS] = [0; NUMBERS];
     let mut order: [usize; LEAVES] = [0; LEAVES];
-    let mut levels: [u32; LEAVES] = [0; LEAVES];
+    let mut depths: [u32; LEAVES] = [0; LEAVES];
     let mut tops: [u32; LEAVES] = [0; LEAVES];
     let all = plan(
         n,
@@ -118,11 +117,11 @@ pub(crate) fn fill_table(n: usize, listing: &[u16], out: &mut [u32])
         &mut places,
         &mut aboves,
         &mut order,
-        &mut levels,
+        &mut depths,
     );
     let mut i: usize = 0;
     while i < n {
-        let base = find_row(n, all, &places, &aboves, &order, &levels, i, &mut tops);
+        let base = find_row(n, &places, &aboves, &order, &depths, i, &mut tops);
         write_row(n, i, base, &aboves, &tops, out);
         i += 1;
     }
@@ -138,7 +137,7 @@ pub(crate) fn fill_gap(n: usize, cells: &[u32], listing: &[u16], out: &mut [i64]
     let mut places: [usize; NUMBERS] = [0; NUMBERS];
     let mut aboves: [u32; NUMBERS] = [0; NUMBERS];
     let mut order: [usize; LEAVES] = [0; LEAVES];
-    let mut levels: [u32; LEAVES] = [0; LEAVES];
+    let mut depths: [u32; LEAVES] = [0; LEAVES];
     let mut tops: [u32; LEAVES] = [0; LEAVES];
     let all = plan(
         n,
@@ -146,11 +145,11 @@ pub(crate) fn fill_gap(n: usize, cells: &[u32], listing: &[u16], out: &mut [i64]
         &mut places,
         &mut aboves,
         &mut order,
-        &mut levels,
+        &mut depths,
     );
     let mut i: usize = 0;
     while i < n {
-        let base = find_row(n, all, &places, &aboves, &order, &levels, i, &mut tops);
+        let base = find_row(n, &places, &aboves, &order, &depths, i, &mut tops);
         subtract_row(n, i, base, &aboves, &tops, cells, out);
         i += 1;
     }

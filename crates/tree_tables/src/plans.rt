@@ -1,9 +1,10 @@
 // The leaves of a tree in an order in which those of each subtree stand one after the other, what branches off on the
-// way down to each, and the level between each two neighbours in the order. A pass up the rows of the listing counts
+// way down to each, and the depth between each two neighbours in the order. A pass up the rows of the listing counts
 // the leaves under each number, and a pass down gives each number its place.
 ghost use mathlib.Core.Path.{_≡_};
 ghost use Prim.Native.Nat.{ℕ, _+_, _*_, _-_, _<_, _≤_};
 ghost use lib.ListN.{length, getD, set, replicate};
+ghost use Rattle.base.specs.Lists.{tab};
 ghost use Rattle.limits.specs.Limits.{most-leaves, IsLeafCount};
 ghost use Rattle.pair_counts.specs.Pairs.{P};
 ghost use Rattle.trees.specs.Listings.{KeepsRules, tree-of};
@@ -14,6 +15,8 @@ ghost use Rattle.tree_tables.specs.Orders.{Plan};
 pub(crate) const LEAVES: usize = 128;
 
 pub(crate) const NUMBERS: usize = 2 * LEAVES;
+// More than what branches off above any two leaves: depths are counted down from it.
+pub(crate) const WHOLE: u32 = (2 * LEAVES * LEAVES) as u32;
 // P(k) is kept for every k from 0 to the most leaves.
 const COUNTS: usize = LEAVES + 1;
 
@@ -43,13 +46,13 @@ fn count_leaves(n: usize, listing: &[u16], sizes: &mut [usize; NUMBERS])
 
 // A sum with P(k) added.
 fn with_pairs(counts: &[u32; COUNTS], sum: u32, k: usize) -> u32
-    requires { ⌜ (k ≤ most-leaves) × (sum + getD (now counts) k 0 ≤ most-sum) ⌝ }
-    ensures { λ r. ⌜ r ≡ sum + getD (now (counts .entry)) k 0 ⌝ }
+    requires { ⌜ (now counts ≡ tab (most-leaves + 1) P) × (k ≤ most-leaves) × (sum ≤ most-sum) ⌝ }
+    ensures { λ r. ⌜ r ≡ sum + P k ⌝ }
 {
     sum + counts[k]
 }
 
-// Number c takes its place, the sum of what branches off above it, and the level before its first leaf.
+// Number c takes its place, the sum of what branches off above it, and the depth before its first leaf.
 fn place_leaf(
     c: usize,
     place: usize,
@@ -95,11 +98,10 @@ fn hang_row(
     let before = befores[c];
     let above_a = with_pairs(counts, above, y);
     let above_b = with_pairs(counts, above, x);
-    let all = with_pairs(counts, 0, n);
     let rest = with_pairs(counts, 0, n - (x + y));
-    let level = above_a + above_b + (all - rest);
+    let depth = rest + (WHOLE - (above_a + above_b));
     place_leaf(a, p, above_a, before, places, aboves, befores);
-    place_leaf(b, p + x, above_b, level, places, aboves, befores);
+    place_leaf(b, p + x, above_b, depth, places, aboves, befores);
 }
 
 // Every number takes its place, from the last row down.
@@ -123,52 +125,56 @@ fn hang(
     }
 }
 
-// The leaf at each place, and the level before it.
+// The leaf at each place, and the depth before it.
 fn lay(
     n: usize,
     places: &[usize; NUMBERS],
     befores: &[u32; NUMBERS],
     order: &mut [usize; LEAVES],
-    levels: &mut [u32; LEAVES],
+    depths: &mut [u32; LEAVES],
 )
-    requires { ⌜ OwnPlaces n (now places) × (length (now order) ≡ most-leaves) × (length (now levels) ≡ most-leaves) ⌝ }
-    ensures { λ _. ⌜ Placed n (now (places .entry)) (now (befores .entry)) (now (order .exit))
-        (now (levels .exit)) n ⌝ }
+    requires { ⌜ OwnPlaces n (now places) × (length (now order) ≡ most-leaves) × (length (now depths) ≡ most-leaves) ⌝ }
+    ensures { λ _. ⌜ Placed (now (places .entry)) (now (befores .entry)) (now (order .exit)) (now (depths .exit)) n ⌝ }
 {
     let mut j: usize = 0;
     while j < n {
         let p = places[j];
         order[p] = j;
-        levels[p] = befores[j];
+        depths[p] = befores[j];
         j += 1;
     }
 }
 
-// The order of the leaves and the levels, from arrays that hold zeros. Leaf 0 hangs above all others, at place 0; the
-// result is P(n).
+// The order of the leaves and the depths, from arrays that hold zeros. Leaf 0 hangs above all others, at place 0.
 pub(crate) fn plan(
     n: usize,
     listing: &[u16],
     places: &mut [usize; NUMBERS],
     aboves: &mut [u32; NUMBERS],
     order: &mut [usize; LEAVES],
-    levels: &mut [u32; LEAVES],
-) -> u32
+    depths: &mut [u32; LEAVES],
+)
     requires { ⌜ IsLeafCount n × KeepsRules n (now listing) × (now places ≡ replicate most-numbers 0)
         × (now aboves ≡ replicate most-numbers 0) × (now order ≡ replicate most-leaves 0)
-        × (now levels ≡ replicate most-leaves 0) ⌝ }
-    ensures { λ r. ⌜ (r ≡ P n) × Plan n (tree-of n (now (listing .entry))) (now (places .exit)) (now (aboves .exit))
-        (now (order .exit)) (now (levels .exit)) ⌝ }
+        × (now depths ≡ replicate most-leaves 0) ⌝ }
+    ensures { λ _. ⌜ Plan n (tree-of n (now (listing .entry))) (now (places .exit)) (now (aboves .exit))
+        (now (order .exit)) (now (depths .exit)) ⌝ }
 {
     let counts = pair_counts::pair_counts();
     let mut sizes: [usize; NUMBERS] = [1; NUMBERS];
     let mut befores: [u32; NUMBERS] = [0; NUMBERS];
     count_leaves(n, listing, &mut sizes);
-    let all = with_pairs(&counts, 0, n);
     let others = with_pairs(&counts, 0, n - 1);
-    place_leaf(2 * n - 3, 1, 0, others + all, places, aboves, &mut befores);
+    place_leaf(
+        2 * n - 3,
+        1,
+        0,
+        WHOLE - others,
+        places,
+        aboves,
+        &mut befores,
+    );
     place_leaf(0, 0, others, 0, places, aboves, &mut befores);
     hang(n, listing, &sizes, &counts, places, aboves, &mut befores);
-    lay(n, places, &befores, order, levels);
-    all
+    lay(n, places, &befores, order, depths);
 }

@@ -1,7 +1,7 @@
 -- `counts::fills::fill_gap` meets its contract: the rows before i are written.
 use mathlib.Core.Path.{_≡_, refl}
 use mathlib.Core.List.{List}
-use Prim.Native.Nat.{ℕ, _+_, _-_, _*_, _/_, _%_, _≤_}
+use Prim.Native.Nat.{ℕ, _-_, _*_, _/_, _%_, _≤_}
 use lib.IntN.{ℤ, pos, _-ℤ_}
 use lib.ListN.{length, getD}
 use Rattle.base.specs.Lists.{filled}
@@ -21,49 +21,43 @@ abbrev gap-at : ℕ → List ℕ → List ℕ → ℕ → ℤ
 gap-at n t l k = pos (getD t k 0) -ℤ pos (quartets n (tree-of n l) (k / n) (k % n))
 
 abbrev Inv-loop : tie.InvT-loop
-Inv-loop n cells listing out₀ places aboves order levels tops₀ all i₀ out tops i =
-    (i ≤ n) × (length tops ≡ most-leaves)
-    × (out ≡ filled (i * n) (gap-at n cells listing) out₀)
+Inv-loop n cells listing out₀ places aboves order depths tops₀ i₀ out tops i =
+    (i ≤ n) × (length tops ≡ most-leaves) × (out ≡ filled (i * n) (gap-at n cells listing) out₀)
 
 abbrev μ-loop : tie.MeasureT-loop
-μ-loop n cells listing out₀ places aboves order levels tops₀ all i₀ out tops i = n - i
+μ-loop n cells listing out₀ places aboves order depths tops₀ i₀ out tops i = n - i
 
 plan-requires : tie.Need-plan-requires Inv-loop μ-loop
 plan-requires c κs =
-    let p = c .before .before .before .before .before .before .pre in (p .0, p .2, refl, refl, refl, refl)
+    let p = c .before .before .before .before .before .before .pre in
+    (p .0, p .2, refl, refl, refl, refl)
 
 loop-holds : tie.Need-loop-holds Inv-loop μ-loop
-loop-holds c = (
-  omega arith,
-  refl,
-  rows-none
-      (gap-at (c .before .before .before .before .before .before .before .args .n)
-      (c .before .before .before .before .before .before .before .args .cells .now)
-      (c .before .before .before .before .before .before .before .args .listing .now)) _ _,
-)
+loop-holds c =
+    let s = c .before .before .before .before .before .before .before in
+    (omega arith, refl, rows-none (gap-at (s .args .n) (s .args .cells .now) (s .args .listing .now)) _ _)
 
 find-row-requires : tie.Need-find-row-requires Inv-loop μ-loop
 find-row-requires c κs =
-    let s = c .before .before .before .before .before .before .before .before .before .before .before .before .before
-    .before in
-    let made = c .before .before .before .before .before .before .before .plan .ensures in
     let i = c .before .before .before .before .before .before .loop in
-    row-asked _ _ (s .pre .0) (s .pre .2) (made .1) (i .tops) (made .0) (omega arith) (i .inv .1)
+    let made = c .before .before .before .before .before .before .before in
+    let p = made .before .before .before .before .before .before .before .pre in
+    row-asked _ _ (p .0) (p .2) (made .plan .ensures) (i .tops) (omega arith) (i .inv .1)
 
 subtract-row-requires : tie.Need-subtract-row-requires Inv-loop μ-loop
 subtract-row-requires c κs =
-    let s = c .before .before .before .before .before .before .before .before .before .before .before .before .before
-    .before .before .before .before .before in
-    let made = c .before .before .before .before .before .before .before .before .before .before .before .plan .ensures
-    in
-    let i = c .before .before .before .before .before .before .before .before .before .before .loop in
     let found = c .before .before .before .find-row .ensures in
+    let i = c .before .before .before .before .before .before .before .before .before .before .loop in
+    let made = c .before .before .before .before .before .before .before .before .before .before .before in
+    let s = made .before .before .before .before .before .before .before in
+    let p = s .pre in
+    let less = c .before .before .before .before .before .before .before .before .before .loop-test .taken in
     let long = rows-room (gap-at (s .args .n) (s .args .cells .now) (s .args .listing .now)) _ (s .args .n) (i .i)
-    (i .inv .0) (s .pre .3) (i .inv .2) in (
-      row-fits _ _ (s .pre .0) (s .pre .2) (made .1) (omega arith) (made .0) (found .0) (found .1) _
-          (omega (arith, s .pre .3, long)),
-      s .pre .1,
-    )
+    (i .inv .0) (p .3) (i .inv .2) in
+    let fits =
+    row-fits _ _ (p .0) (p .2) (made .plan .ensures) less (found .0) (found .1) (length (i .out))
+    (omega (arith, p .3, long)) in
+    (fits, p .1)
 
 add-i : tie.Need-add-i Inv-loop μ-loop
 add-i c = search needs
@@ -73,19 +67,18 @@ loop-less c = search needs
 
 loop-again : tie.Need-loop-again Inv-loop μ-loop
 loop-again c =
-    let s = c .before .before .before .before .before .before .before .before .before .before .before .before .before
-    .before .before .before .before .before .before .before in
-    let made = c .before .before .before .before .before .before .before .before .before .before .before .before .before
-    .plan .ensures in
-    let i = c .before .before .before .before .before .before .before .before .before .before .before .before .loop in
     let found = c .before .before .before .before .before .find-row .ensures in
-    let cell = cell-is _ _ (s .pre .0) (s .pre .2) (made .1) (omega arith) (made .0) (found .0) (found .1) in
-    let next = c .before .subtract-row .ensures (gap-at (s .args .n) (s .args .cells .now) (s .args .listing .now)) _
-    (λ j lj. rw (cell j lj)) (i .inv .2) in (
-      omega arith,
-      found .1 .long,
-      rows-more (gap-at (s .args .n) (s .args .cells .now) (s .args .listing .now)) _ (s .args .n) (i .i) next,
-    )
+    let written = c .before .subtract-row .ensures in
+    let i = c .before .before .before .before .before .before .before .before .before .before .before .before .loop in
+    let made = c .before .before .before .before .before .before .before .before .before .before .before .before .before
+    in
+    let s = made .before .before .before .before .before .before .before in
+    let p = s .pre in
+    let less = c .before .before .before .before .before .before .before .before .before .before .before .loop-test
+    .taken in
+    let cell = cell-is _ _ (p .0) (p .2) (made .plan .ensures) less (found .0) (found .1) in
+    let f = gap-at (s .args .n) (s .args .cells .now) (s .args .listing .now) in
+    (omega arith, found .1 .long, rows-more f _ (s .args .n) (i .i) (written f _ (λ j lj. rw (cell j lj)) (i .inv .2)))
 
 same-length : tie.Need-same-length Inv-loop μ-loop
 same-length c =

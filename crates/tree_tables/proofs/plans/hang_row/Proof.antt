@@ -1,10 +1,9 @@
 -- `counts::plans::hang_row` meets its contract: what the two children are given is what the row asks.
-use mathlib.Core.Path.{_∙_}
-use Prim.Native.Nat.{_+_, _-_, _*_, _≤_}
+use Prim.Native.Nat.{_+_, _≤_}
 use lib.ListN.{length-set}
-use Rattle.tree_tables.specs.Orders.{most-sum}
-use Rattle.tree_tables.proofs.Hanging.{Next, first-below, second-below, few, in-place, pairs-first, pairs-second}
-use Rattle.tree_tables.proofs.Hanging.{pairs-all, pairs-rest, rest-le, level-small, hung-row}
+use Rattle.tree_tables.specs.Orders.{most-sum, whole}
+use Rattle.tree_tables.proofs.Hanging.{Next, first-below, second-below, few, in-place, above-small, sums-small}
+use Rattle.tree_tables.proofs.Hanging.{rest-small, hung-row}
 use native.Mathlib.Omega.{arith}
 use borrow.Author.Needs.{needs}
 use Rattle.tree_tables.proofs.plans.hang_row.Statement.{statement}
@@ -73,66 +72,61 @@ element-copy-out-before : tie.Need-element-copy-out-before
 element-copy-out-before c = search needs
 
 with-pairs-requires : tie.Need-with-pairs-requires
-with-pairs-requires c κs = pairs-first (next (c .before .before .before .before .before))
+with-pairs-requires c κs =
+    let f = next (c .before .before .before .before .before) in
+    (f .asked .counted, omega (arith, in-place f, f .asked .leaf-count .1), above-small f)
 
 with-pairs-requires-2 : tie.Need-with-pairs-requires-2
-with-pairs-requires-2 c κs = pairs-second (next (c .before .before .before .before .before .before))
-
-with-pairs-requires-3 : tie.Need-with-pairs-requires-3
-with-pairs-requires-3 c κs = pairs-all (next (c .before .before .before .before .before .before .before))
+with-pairs-requires-2 c κs =
+    let f = next (c .before .before .before .before .before .before) in
+    (f .asked .counted, omega (arith, in-place f, f .asked .leaf-count .1), above-small f)
 
 add-with-pairs : tie.Need-add-with-pairs
 add-with-pairs c =
-    let f = next (c .before .before .before .before .before .before .before .before) in
+    let f = next (c .before .before .before .before .before .before .before) in
     omega (arith, in-place f, f .asked .leaf-count .1)
 
 sub-with-pairs : tie.Need-sub-with-pairs
-sub-with-pairs c =
-    let f = next (c .before .before .before .before .before .before .before .before) in omega (arith, in-place f)
+sub-with-pairs c = let f = next (c .before .before .before .before .before .before .before) in omega (arith, in-place f)
 
-with-pairs-requires-4 : tie.Need-with-pairs-requires-4
-with-pairs-requires-4 c κs = pairs-rest (next (c .before .before .before .before .before .before .before .before))
+with-pairs-requires-3 : tie.Need-with-pairs-requires-3
+with-pairs-requires-3 c κs = search needs
 
--- the level fits
-small :
-    (c : tie.After-with-pairs4)
-    → (let all = c .before .with-pairs3 .result in
-    c .before .before .before .with-pairs .result + c .before .before .with-pairs2 .result
-    + (all - c .with-pairs4 .result)
-    ≤ 3 * most-sum)
-small c =
-    level-small (next (c .before .before .before .before .before .before .before .before .before))
-    (c .before .before .before .with-pairs .ensures) (c .before .before .with-pairs2 .ensures)
-    (c .before .with-pairs3 .ensures) (c .with-pairs4 .ensures)
+-- the sums are made
+sums :
+    (c : tie.After-with-pairs3)
+    → (c .before .before .with-pairs .result + c .before .with-pairs2 .result ≤ whole)
+    × (c .with-pairs3 .result ≤ most-sum)
+sums c =
+    let f = next (c .before .before .before .before .before .before .before .before) in
+    let a = c .before .before .with-pairs .ensures in
+    let b = c .before .with-pairs2 .ensures in
+    (sums-small f a b (c .with-pairs3 .ensures), rest-small f a b (c .with-pairs3 .ensures))
 
-add-level : tie.Need-add-level
-add-level c = omega (arith, small c)
+add-depth : tie.Need-add-depth
+add-depth c = omega (arith, sums c)
 
-sub-level : tie.Need-sub-level
-sub-level c =
-    rest-le (next (c .before .before .before .before .before .before .before .before .before))
-    (c .before .before .before .with-pairs .ensures) (c .before .before .with-pairs2 .ensures)
-    (c .before .with-pairs3 .ensures)
-    (c .with-pairs4 .ensures)
+sub-depth : tie.Need-sub-depth
+sub-depth c = sums c .0
 
-add-level-2 : tie.Need-add-level-2
-add-level-2 c = omega (arith, small c)
+add-depth-2 : tie.Need-add-depth-2
+add-depth-2 c = omega (arith, sums c)
 
 place-leaf-requires : tie.Need-place-leaf-requires
 place-leaf-requires c κs =
-    let f = next (c .before .before .before .before .before .before .before .before .before .before .before .before) in
+    let f = next (c .before .before .before .before .before .before .before .before .before .before .before) in
     (omega (arith, first-below f, few f), f .hung .places-long, f .hung .aboves-long, f .hung .befores-long)
 
 add-place-leaf : tie.Need-add-place-leaf
 add-place-leaf c =
-    let f = next (c .before .before .before .before .before .before .before .before .before .before .before .before
-    .before) in omega (arith, in-place f, f .asked .leaf-count .1)
+    let f = next (c .before .before .before .before .before .before .before .before .before .before .before .before) in
+    omega (arith, in-place f, f .asked .leaf-count .1)
 
 place-leaf-requires-2 : tie.Need-place-leaf-requires-2
 place-leaf-requires-2 c κs =
-    let f = next (c .before .before .before .before .before .before .before .before .before .before .before .before
-    .before .before .before .before) in
-    let s = c .before .before .before .place-leaf .ensures in (
+    let b = c .before .before .before in
+    let f = next (b .before .before .before .before .before .before .before .before .before .before .before .before) in
+    let s = b .place-leaf .ensures in (
       omega (arith, second-below f, few f),
       rw (s .0, length-set) (f .hung .places-long),
       rw (s .1, length-set) (f .hung .aboves-long),
@@ -144,11 +138,9 @@ returns c =
     let s = c .before .before .before .before .place-leaf .ensures in
     let t = c .place-leaf2 .ensures in
     let p = c .before .before .before .before .before .before .before .before in
+    let f = next (p .before .before .before .before .before .before .before .before) in
     rw (t .0, t .1, t .2, s .0, s .1, s .2)
-    (hung-row (next (c .before .before .before .before .before .before .before .before .before .before .before .before
-    .before .before .before .before .before)) (p .before .before .before .with-pairs .ensures)
-    (p .before .before .with-pairs2 .ensures) (p .before .with-pairs3 .ensures)
-    (p .with-pairs4 .ensures))
+    (hung-row f (p .before .before .with-pairs .ensures) (p .before .with-pairs2 .ensures) (p .with-pairs3 .ensures))
 
 pub hang-row-spec : {M : Type 1} → statement M
 hang-row-spec =
@@ -171,13 +163,12 @@ hang-row-spec =
     element-copy-out-before
     with-pairs-requires
     with-pairs-requires-2
-    with-pairs-requires-3
     add-with-pairs
     sub-with-pairs
-    with-pairs-requires-4
-    add-level
-    sub-level
-    add-level-2
+    with-pairs-requires-3
+    add-depth
+    sub-depth
+    add-depth-2
     place-leaf-requires
     add-place-leaf
     place-leaf-requires-2

@@ -11,11 +11,11 @@ use Rattle.tree_tables.proofs.plans.lay.Statement.{statement}
 use Rattle.tree_tables.proofs.plans.lay.Tie as tie
 
 abbrev Inv-loop : tie.InvT-loop
-Inv-loop n places befores order₀ levels₀ j₀ order levels j =
-    (j ≤ n) × (length order ≡ most-leaves) × (length levels ≡ most-leaves) × Placed n places befores order levels j
+Inv-loop n places befores order₀ depths₀ j₀ order depths j =
+    (j ≤ n) × (length order ≡ most-leaves) × (length depths ≡ most-leaves) × Placed places befores order depths j
 
 abbrev μ-loop : tie.MeasureT-loop
-μ-loop n places befores order₀ levels₀ j₀ order levels j = n - j
+μ-loop n places befores order₀ depths₀ j₀ order depths j = n - j
 
 loop-holds : tie.Need-loop-holds Inv-loop μ-loop
 loop-holds c = search needs
@@ -36,19 +36,19 @@ element-write-order c =
     let own = c .before .before .before .pre .0 in
     omega (arith, own .inside (c .before .before .loop .j) (omega arith), own .few)
 
-mul-levels : tie.Need-mul-levels Inv-loop μ-loop
-mul-levels c = search needs
+mul-depths : tie.Need-mul-depths Inv-loop μ-loop
+mul-depths c = search needs
 
-element-copy-out-levels : tie.Need-element-copy-out-levels Inv-loop μ-loop
-element-copy-out-levels c = search needs
+element-copy-out-depths : tie.Need-element-copy-out-depths Inv-loop μ-loop
+element-copy-out-depths c = search needs
 
-mul-levels-2 : tie.Need-mul-levels-2 Inv-loop μ-loop
-mul-levels-2 c =
+mul-depths-2 : tie.Need-mul-depths-2 Inv-loop μ-loop
+mul-depths-2 c =
     let own = c .before .before .before .before .pre .0 in
     omega (arith, own .inside (c .before .before .before .loop .j) (omega arith), own .few)
 
-element-write-levels : tie.Need-element-write-levels Inv-loop μ-loop
-element-write-levels c =
+element-write-depths : tie.Need-element-write-depths Inv-loop μ-loop
+element-write-depths c =
     let own = c .before .before .before .before .pre .0 in
     omega (arith, own .inside (c .before .before .before .loop .j) (omega arith), own .few)
 
@@ -65,8 +65,8 @@ loop-again c =
     let a = s .args in (
       omega arith,
       length-set (i .order) (at (a .places .now) (i .j)) (i .j) ∙ i .inv .1,
-      length-set (i .levels) (at (a .places .now) (i .j)) (at (a .befores .now) (i .j)) ∙ i .inv .2,
-      placed-more (a .n) (a .places .now) (a .befores .now) (i .order) (i .levels) (i .j) (s .pre .0) (omega arith)
+      length-set (i .depths) (at (a .places .now) (i .j)) (at (a .befores .now) (i .j)) ∙ i .inv .2,
+      placed-more (a .n) (a .places .now) (a .befores .now) (i .order) (i .depths) (i .j) (s .pre .0) (omega arith)
           (i .inv .1) (i .inv .2) (i .inv .3),
     )
 
@@ -84,10 +84,10 @@ lay-spec =
     element-copy-out-p
     mul-order
     element-write-order
-    mul-levels
-    element-copy-out-levels
-    mul-levels-2
-    element-write-levels
+    mul-depths
+    element-copy-out-depths
+    mul-depths-2
+    element-write-depths
     add-j
     loop-less
     loop-again

@@ -1,4 +1,4 @@
-use Rattle.tree_tables.proofs.HighestLevels.{topped}
+use Rattle.tree_tables.proofs.LeastDepths.{topped}
 use native.Mathlib.Omega.{arith}
 use borrow.Author.Needs.{needs}
 use Rattle.tree_tables.proofs.tops.find_tops.Statement.{statement}
@@ -30,7 +30,7 @@ returns : tie.Need-returns
 returns c =
     let s = c .before .before .before .before .before in
     let left = c .before .leftwards .ensures in
-    topped (s .args .n) (s .args .order .now) (s .args .levels .now)
+    topped (s .args .n) (s .args .order .now) (s .args .depths .now)
     (c .before .before .before .rightwards .last .1 .1 .1 .1 .0) (c .before .leftwards .last .1 .1 .1 .1 .0)
     (s .args .p) (s .args .own) (s .pre .0) (s .pre .1) (left .0) (c .before .before .before .rightwards .ensures .1)
     (left .1) (left .2)

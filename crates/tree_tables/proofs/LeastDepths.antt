@@ -1,4 +1,4 @@
--- The highest level between two places, one place more at either end; and the leaf at each place keeps its own.
+-- The least depth between two places, one place more at either end; and the leaf at each place keeps its own.
 use mathlib.Core.Path.{_≡_, _∙_}
 use mathlib.Core.Logic.{_⊎_, inl, inr, _≢_}
 use mathlib.Core.List.{List}
@@ -8,25 +8,25 @@ use native.Mathlib.Decide.{ℕ-discrete}
 use lib.ListN.{length, set, length-set}
 use lib.Seq.{getD-set-same, getD-set-other}
 use Rattle.limits.specs.Limits.{most-leaves}
-use Rattle.tree_tables.specs.Orders.{at, LeafOrder, Highest, Topped}
+use Rattle.tree_tables.specs.Orders.{most-depth, at, LeafOrder, Shallowest, Topped}
 
--- between a place and itself there is no level
-pub highest-none : (levels : List ℕ) (p : ℕ) → Highest levels p p 0
-highest-none levels p = record { bound = λ t a b. absurd (omega arith); least = λ z h. omega arith }
+-- between a place and itself there is no depth
+pub shallowest-none : (depths : List ℕ) (p : ℕ) → Shallowest depths p p most-depth
+shallowest-none depths p = record { bound = λ t a b. absurd (omega arith); greatest = λ z l h. l }
 
--- one level more, at t
-pub highest-more :
-    {levels : List ℕ} {lo hi m t r : ℕ} → Highest levels lo hi m → m ≤ r → at levels t ≤ r
-    → ((z : ℕ) → m ≤ z → at levels t ≤ z → r ≤ z) → (lo′ hi′ : ℕ) → lo′ < t → t ≤ hi′
+-- one depth more, at t
+pub shallowest-more :
+    {depths : List ℕ} {lo hi m t r : ℕ} → Shallowest depths lo hi m → r ≤ m → r ≤ at depths t
+    → ((z : ℕ) → z ≤ m → z ≤ at depths t → z ≤ r) → (lo′ hi′ : ℕ) → lo′ < t → t ≤ hi′
     → ((s : ℕ) → lo < s → s ≤ hi → (lo′ < s) × (s ≤ hi′))
-    → ((s : ℕ) → lo′ < s → s ≤ hi′ → ((lo < s) × (s ≤ hi)) ⊎ (s ≡ t)) → Highest levels lo′ hi′ r
-highest-more {levels} {t = t} {r} h up here least lo′ hi′ a b in-it of-it = record {
+    → ((s : ℕ) → lo′ < s → s ≤ hi′ → ((lo < s) × (s ≤ hi)) ⊎ (s ≡ t)) → Shallowest depths lo′ hi′ r
+shallowest-more {depths} {t = t} {r} h down here greatest lo′ hi′ a b in-it of-it = record {
   bound = λ s p q. elim (of-it s p q) [
     | inl old ↦ omega (arith, h .bound s (old .0) (old .1))
     | inr e ↦ rw e here
   ];
-  least = λ z g.
-      least z (h .least z (λ s p q. g s (in-it s p q .0) (in-it s p q .1))) (g t a b);
+  greatest = λ z l g.
+      greatest z (h .greatest z l (λ s p q. g s (in-it s p q .0) (in-it s p q .1))) (g t a b);
 }
 
 -- the leaf at a place has what was stored for it, and those at other places keep theirs
@@ -38,18 +38,18 @@ module _ {n : ℕ} {order : List ℕ} (o : LeafOrder n order) (tops : List ℕ) 
   top-other t lt d = getD-set-other tops (at order s) (at order t) v 0 (λ e. d (o .once t s lt ls e))
 
 -- one place more, after p and before it; `tops′` has r stored for the leaf there
-abbrev pub After : (order levels : List ℕ) (p : ℕ) (tops : List ℕ) (m : ℕ) → Type 0
-After order levels p tops m = (s : ℕ) → p < s → s < m → Highest levels p s (at tops (at order s))
+abbrev pub After : (order depths : List ℕ) (p : ℕ) (tops : List ℕ) (m : ℕ) → Type 0
+After order depths p tops m = (s : ℕ) → p < s → s < m → Shallowest depths p s (at tops (at order s))
 
-abbrev pub Before : (order levels : List ℕ) (p : ℕ) (tops : List ℕ) (m : ℕ) → Type 0
-Before order levels p tops m = (s : ℕ) → m ≤ s → s < p → Highest levels s p (at tops (at order s))
+abbrev pub Before : (order depths : List ℕ) (p : ℕ) (tops : List ℕ) (m : ℕ) → Type 0
+Before order depths p tops m = (s : ℕ) → m ≤ s → s < p → Shallowest depths s p (at tops (at order s))
 
-module _ (n : ℕ) (order levels tops tops′ : List ℕ) (p t high r : ℕ) (o : LeafOrder n order)
-    (long : length tops ≡ most-leaves) (up : high ≤ r) (here : at levels t ≤ r)
-    (least : (z : ℕ) → high ≤ z → at levels t ≤ z → r ≤ z) where
+module _ (n : ℕ) (order depths tops tops′ : List ℕ) (p t low r : ℕ) (o : LeafOrder n order)
+    (long : length tops ≡ most-leaves) (down : r ≤ low) (here : r ≤ at depths t)
+    (greatest : (z : ℕ) → z ≤ low → z ≤ at depths t → z ≤ r) where
   pub after-more :
-      p < t → t < n → Highest levels p (t - 1) high → After order levels p tops t → tops′ ≡ set tops (at order t) r
-      → (length tops′ ≡ most-leaves) × Highest levels p (t + 1 - 1) r × After order levels p tops′ (t + 1)
+      p < t → t < n → Shallowest depths p (t - 1) low → After order depths p tops t → tops′ ≡ set tops (at order t) r
+      → (length tops′ ≡ most-leaves) × Shallowest depths p (t + 1 - 1) r × After order depths p tops′ (t + 1)
   after-more lp ln h old e =
       let next : t + 1 - 1 ≡ t = omega arith in
       rw (next, e) (
@@ -61,15 +61,15 @@ module _ (n : ℕ) (order levels tops tops′ : List ℕ) (p t high r : ℕ) (o 
         ],
       )
     where
-      new : Highest levels p t r
+      new : Shallowest depths p t r
       new =
-          highest-more h up here least p t lp (omega arith) (λ s a b. (a, omega arith)) (λ s a b.
+          shallowest-more h down here greatest p t lp (omega arith) (λ s a b. (a, omega arith)) (λ s a b.
           elim (ℕ-discrete s t) [ yes q ↦ inr q | no q ↦ inl (a, omega arith) ])
 
   pub before-more :
-      0 < t → t ≤ p → p < n → Highest levels t p high → Before order levels p tops t
+      0 < t → t ≤ p → p < n → Shallowest depths t p low → Before order depths p tops t
       → tops′ ≡ set tops (at order (t - 1)) r
-      → (length tops′ ≡ most-leaves) × Highest levels (t - 1) p r × Before order levels p tops′ (t - 1)
+      → (length tops′ ≡ most-leaves) × Shallowest depths (t - 1) p r × Before order depths p tops′ (t - 1)
       × ((s : ℕ) → p < s → s < n → at tops′ (at order s) ≡ at tops (at order s))
   before-more lt lp ln h old e = rw e (
     length-set tops (at order (t - 1)) r ∙ long,
@@ -81,18 +81,18 @@ module _ (n : ℕ) (order levels tops tops′ : List ℕ) (p t high r : ℕ) (o 
     λ s a b. top-other o tops r (t - 1) (omega arith) s b (omega arith),
   )
     where
-      new : Highest levels (t - 1) p r
+      new : Shallowest depths (t - 1) p r
       new =
-          highest-more h up here least (t - 1) p (omega arith) lp (λ s a b. (omega arith, b)) (λ s a b.
+          shallowest-more h down here greatest (t - 1) p (omega arith) lp (λ s a b. (omega arith, b)) (λ s a b.
           elim (ℕ-discrete s t) [ yes q ↦ inr q | no q ↦ inl (omega arith, b) ])
 
 -- the leaf at p keeps its own number at last
 pub topped :
-    (n : ℕ) (order levels tops₁ tops₂ : List ℕ) (p own : ℕ) → LeafOrder n order → p < n → length tops₂ ≡ most-leaves
-    → After order levels p tops₁ n → ((s : ℕ) → s < p → Highest levels s p (at tops₂ (at order s)))
+    (n : ℕ) (order depths tops₁ tops₂ : List ℕ) (p own : ℕ) → LeafOrder n order → p < n → length tops₂ ≡ most-leaves
+    → After order depths p tops₁ n → ((s : ℕ) → s < p → Shallowest depths s p (at tops₂ (at order s)))
     → ((s : ℕ) → p < s → s < n → at tops₂ (at order s) ≡ at tops₁ (at order s))
-    → Topped n order levels p own (set tops₂ (at order p) own)
-topped n order levels tops₁ tops₂ p own o lp long after before kept = record {
+    → Topped n order depths p own (set tops₂ (at order p) own)
+topped n order depths tops₁ tops₂ p own o lp long after before kept = record {
   long = length-set tops₂ (at order p) own ∙ long;
   here = top-here o tops₂ own p lp long;
   after = λ s a b. rw (top-other o tops₂ own p lp s b (omega arith) ∙ kept s a b) (after s a b);
