@@ -13,7 +13,7 @@ use Rattle.base.specs.Lists.{tab, any-in, all-in}
 use Rattle.base.proofs.Bools.{bool?, or-left, or-right, or-none, or-cases, and-is}
 use Rattle.base.proofs.Lists.{but-last, split-last}
 use Rattle.limits.specs.Limits.{IsLeafCount}
-use Rattle.trees.specs.Trees.{Tree, leaf, LeafSet, leaves, join}
+use Rattle.trees.specs.Trees.{Tree, leaf, LeafSet, leaves, least, join}
 use Rattle.trees.specs.Listings.{tree-of}
 use Rattle.trees.specs.Edges.{one-edge, is-edge}
 use Rattle.trees.specs.Tables.{cell, IsTable}
@@ -21,7 +21,7 @@ use Rattle.trees.proofs.Trees.{leaves-join, Distinct, Drawn, drawn-on, tree-siz
 use Rattle.trees.proofs.Subtrees.{In, in-whole, in-join, join-left, join-right, leaf-in, every-edge, edge-count}
 use Rattle.trees.proofs.Subtrees.{same-sym, one-edge-is, subtree-edge}
 use Rattle.trees.proofs.Listings.{standard-read}
-use Rattle.merging.specs.Merging.{State, start, step}
+use Rattle.merging.specs.Merging.{State, start, merge, step}
 use Rattle.merging.specs.MergeLists.{Pair, run, allowed, after, each-eligible, Finished, subtrees, final-listing}
 use Rattle.merging.specs.FinalEdges.{made, sides, FinalEdges}
 use Rattle.merging.proofs.States.{WellFormed, Single, wf-start, step-in, step-out, apart}
@@ -31,6 +31,11 @@ use Rattle.merging.proofs.Runs.{Eligible, allowed-runs}
 use Rattle.merging.proofs.Soundness.{Sums, sums-start, sums-runs, drawn}
 use Rattle.merging.proofs.MergeLists.{one-single, head, allowed-more}
 use Rattle.merging.proofs.Ends.{halves, runs, wf, left-is, full-list}
+
+-- four merges of five leaves give eight sides: the leaves, and the three subtrees made before the last merge
+sides-example : length (sides 5 ((3, 4) ∷ (0, 1) ∷ (2, 3) ∷ (0, 2) ∷ [])) ≡ 8
+unfolding sides tab made start step merge leaves join least
+sides-example = refl
 
 -- X is a member of the list
 abbrev Among : Tree → List Tree → Type 0

@@ -16,4 +16,3 @@ pub mod FinalEdges
 pub mod SameTree
 pub mod OneTable
 pub mod Speed
-pub mod Cases

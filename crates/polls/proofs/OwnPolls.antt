@@ -6,7 +6,7 @@ use mathlib.Core.Path.{_≡_, refl, sym, _∙_}
 use mathlib.Core.Logic.{_⊎_, inl, inr, _≢_}
 use mathlib.Core.Bool.{Bool, true, false, _&&_, _||_, or-comm, or-false, and-true, and-false}
 use mathlib.Core.List.{List, [], _∷_}
-use mathlib.Core.Option.{Option, none, some}
+use mathlib.Core.Option.{none}
 use Prim.Native.Nat.{ℕ, zero, suc, _+_, _*_, _/_, _%_, _<_}
 use native.Mathlib.Nat.{div-lt-iff-lt-mul, mod-lt}
 use native.Mathlib.Omega.{arith}
@@ -24,9 +24,8 @@ use Rattle.trees.specs.Quartets.{separates, paired, pairing, other, quartets}
 use Rattle.trees.specs.Tables.{table-of}
 use Rattle.trees.proofs.Quartets.{quartets-diagonal, quartets-ij}
 use Rattle.trees.proofs.Pairings.{Four, exactly-one, one-pairing}
-use Rattle.refusals.specs.declared.Refusal.{Refusal}
-use Rattle.refusals.specs.Refusals.{accepted, answered}
-use Rattle.refusals.proofs.Answers.{judged-none}
+use Rattle.refusals.specs.Refusals.{accepted}
+use Rattle.refusals.proofs.Answers.{judged-none, answered-accepted}
 use Rattle.polls.specs.declared.Record.{Record}
 use Rattle.polls.specs.declared.judging.Quartet.{Quartet}
 use Rattle.polls.specs.Records.{four, quartets-of, is-of, record-refusal, records-refusal-from, records-refusal}
@@ -313,20 +312,13 @@ module _ (n : ℕ) (T : Tree) (t : IsTree n T) (R : List Record) (due : length R
       tab-same (n * n) (λ k. poll-cell R (k / n) (k % n)) (λ k. quartets n T (k / n) (k % n)) (λ k l.
       own-cells (k / n) (k % n) (div-lt-iff-lt-mul z .1 l) (mod-lt k z))
 
--- an answer that is a result: no refusal arises, and it is this result
-pub accepted-is :
-    {A : Type 0} (o : Option Refusal) (x y : A) → answered o x ≡ accepted y → (o ≡ none) × (x ≡ y)
-unfolding answered
-accepted-is none x y h = (refl, cc)
-accepted-is (some r) x y h = absurd (let z : _≡_ {A = ℕ} 0 1 = cc in omega arith)
-
 -- The law: where a poll is accepted and every record has the tree's own pairing, the sums are the tree's table.
 pub own-poll :
     (n : ℕ) (R : List Record) (room : ℕ) (t : List ℕ) → poll-answer n R room ≡ accepted t → (T : Tree) → IsTree n T
     → all-in (is-own T) R ≡ true → t ≡ table-of n T
 unfolding poll-answer poll-refusal
 own-poll n R room t h T tree own =
-    let answer = accepted-is (poll-refusal n R room) (poll-table n R) t h in
+    let answer = answered-accepted (poll-refusal n R room) (poll-table n R) t h in
     let sizes = judged-none (poll-sizes-refusal n (length R) room) (records-refusal n R ∷ []) (answer .0) in
     let records = judged-none (records-refusal n R) [] (sizes .1) in
     let sized = sizes-pass n (length R) room (sizes .0) in

@@ -13,7 +13,7 @@ use Rattle.base.proofs.Bools.{bool?}
 use Rattle.trees.specs.Tables.{IsTable}
 use Rattle.trees.proofs.Tables.{rule-is-table}
 use Rattle.refusals.specs.Refusals.{accepted}
-use Rattle.refusals.proofs.Answers.{judged-none}
+use Rattle.refusals.proofs.Answers.{judged-none, answered-accepted}
 use Rattle.polls.specs.declared.Record.{Record}
 use Rattle.polls.specs.declared.judging.Quartet.{Quartet}
 use Rattle.polls.specs.Records.{quartets-of, record-refusal, records-refusal-from, records-refusal}
@@ -24,7 +24,7 @@ use Rattle.polls.proofs.Records.{passes-of, same-leaves}
 use Rattle.polls.proofs.Quartets.{quartets-count}
 use Rattle.polls.proofs.Operations.{sizes-pass}
 use Rattle.polls.proofs.FourSums.{gain-none, gain-when, sum4-zero, total, total-sum, rising, rising-lt}
-use Rattle.polls.proofs.OwnPolls.{code-diagonal, accepted-is}
+use Rattle.polls.proofs.OwnPolls.{code-diagonal}
 
 -- 1 for a quartet whose leaves do not rise
 unrising : Quartet → ℕ
@@ -66,7 +66,7 @@ pub poll-is-table :
     (n : ℕ) (R : List Record) (room : ℕ) (t : List ℕ) → poll-answer n R room ≡ accepted t → IsTable n t
 unfolding poll-answer poll-refusal records-refusal poll-table
 poll-is-table n R room t h =
-    let answer = accepted-is (poll-refusal n R room) (poll-table n R) t h in
+    let answer = answered-accepted (poll-refusal n R room) (poll-table n R) t h in
     let sizes = judged-none (poll-sizes-refusal n (length R) room) (records-refusal n R ∷ []) (answer .0) in
     let records = judged-none (records-refusal n R) [] (sizes .1) in
     let due = sizes-pass n (length R) room (sizes .0) .due ∙ sym (quartets-count n) in

@@ -8,9 +8,10 @@ use mathlib.Core.Option.{none}
 use Prim.Native.Nat.{ℕ, _-_, _*_, _<_}
 use lib.ListN.{length}
 use Rattle.refusals.specs.declared.Refusal.the-variants.{NoTree, Proposal}
-use Rattle.refusals.specs.Refusals.{Answer, accepted, refused}
+use Rattle.refusals.specs.Refusals.{Answer, accepted, refused, written}
+use Rattle.refusals.specs.Meanings.{Gives}
 use Rattle.refusals.proofs.Answers.{judged-none, unless-accepted, unless-passed, accepted-not-refused}
-use Rattle.refusals.proofs.Meanings.{unless-means, unless-fixed}
+use Rattle.refusals.proofs.Meanings.{unless-means, unless-fixed, with-meaning}
 use Rattle.base.proofs.Bools.{bool?}
 use Rattle.trees.specs.Listings.{KeepsRules, tree-of, standard}
 use Rattle.trees.specs.Tables.{HasTable}
@@ -60,6 +61,14 @@ module _ (n : ℕ) (t : List ℕ) (room : ℕ) where
 
   pub rebuild-fixed : {a b : Answer (List ℕ)} → RebuildMeans n t room a → RebuildMeans n t room b → a ≡ b
   rebuild-fixed = unless-fixed (TableMeans n t) (λ a b m m′. meaning.table-fixed n t m m′)
+
+  -- so a call that gives this answer gives one with this meaning
+  pub rebuild-gives :
+      {R : Type 0} {r : R} {out out′ : List ℕ} (told : Answer (List ℕ) → R)
+      → (r ≡ told (rebuild-answer n t room)) × (out′ ≡ written (rebuild-answer n t room) out)
+      → (r ≡ told (rebuild-answer n t room))
+      × ((out′ ≡ written (rebuild-answer n t room) out) × Gives told (RebuildMeans n t room) r out out′)
+  rebuild-gives told = with-meaning told (RebuildMeans n t room) (rebuild-answer n t room) rebuild-meaning
 
   -- The call is accepted, and the listing is l.
   module _ (l : List ℕ) (e : rebuild-answer n t room ≡ accepted l) where
@@ -168,3 +177,11 @@ module _ (n : ℕ) (t p : List ℕ) (room : ℕ) where
   pub guided-fixed : {a b : Answer (List ℕ)} → GuidedMeans n t p room a → GuidedMeans n t p room b → a ≡ b
   guided-fixed =
       unless-fixed (ProposalsMean n t (proposals p)) (λ a b m m′. meaning.proposals-fixed n t (proposals p) m m′)
+
+  -- so a call that gives this answer gives one with this meaning
+  pub guided-gives :
+      {R : Type 0} {r : R} {out out′ : List ℕ} (told : Answer (List ℕ) → R)
+      → (r ≡ told (guided-answer n t p room)) × (out′ ≡ written (guided-answer n t p room) out)
+      → (r ≡ told (guided-answer n t p room))
+      × ((out′ ≡ written (guided-answer n t p room) out) × Gives told (GuidedMeans n t p room) r out out′)
+  guided-gives told = with-meaning told (GuidedMeans n t p room) (guided-answer n t p room) guided-meaning

@@ -12,8 +12,7 @@ use Rattle.trees.specs.Tables.{table-of, IsTable, cells-refusal}
 use Rattle.trees.proofs.Listings.{tree-listing, standard-once}
 use Rattle.trees.proofs.Rules.{listing-tree}
 use Rattle.trees.proofs.Tables.{passes-exactly, own-is-table, scale-one}
-use Rattle.table_checks.specs.Operations.{table-refusal}
-use Rattle.table_checks.proofs.TableRefusal.{cells-left}
+use Rattle.table_checks.proofs.TableRefusal.{table-passes}
 use Rattle.merging.proofs.OneTable.{one-table}
 use Rattle.reconstruct.specs.Operations.{rebuild-answer}
 use Rattle.reconstruct.proofs.Promises.{accepted-exactly-when, rebuilt-is-the-only-one, rebuilt-has-the-table}
@@ -24,19 +23,16 @@ own-table-passes n T = (own-is-table n T, passes-exactly n (table-of n T) .1 (ow
 
 -- A tree on n leaves, and room for its listing.
 module _ (n : ℕ) (count : IsLeafCount n) (T : Tree) (tree : IsTree n T) (room : ℕ) (enough : 2 * (n - 2) ≤ room) where
-  own-table-judged : table-refusal n (table-of n T) (2 * (n - 2)) room ≡ none
-  own-table-judged =
-      cells-left n (table-of n T) (2 * (n - 2)) room count (own-is-table n T .cells) enough ∙ own-table-passes n T .1
-
   -- rebuilding the table of a tree gives the tree's standard listing
   pub tree-rebuilt : rebuild-answer n (table-of n T) room ≡ accepted (standard n T)
   tree-rebuilt =
+      let passed = table-passes n (table-of n T) (2 * (n - 2)) room count (own-is-table n T) enough in
       let listed = tree-listing n count T tree in
       let l = standard n T in
       let T′ = tree-of n l in
       let own-table = one-table n count T′ T (listing-tree n count l (listed .0)) tree .0 (listed .1) in
       let has = scale-one n (table-of n T) T′ .1 (sym own-table) in
-      let a = accepted-exactly-when n (table-of n T) room own-table-judged .1 (l, listed .0, has) in
+      let a = accepted-exactly-when n (table-of n T) room passed .1 (l, listed .0, has) in
       let only = rebuilt-is-the-only-one n (table-of n T) room (a .0) (a .1) l (listed .0) has in
       rw (sym (standard-once n count T tree) ∙ only) (a .1)
 

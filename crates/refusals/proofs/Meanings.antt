@@ -22,10 +22,14 @@ module _ {A : Type 0} (M : Answer A → Type 0) where
   unless-fixed fixed (none-before e m) (refused-before e′) = absurd (let z : _≡_ {A = ℕ} 0 1 = cc in omega arith)
   unless-fixed fixed (none-before e m) (none-before e′ m′) = fixed _ _ m m′
 
--- what a contract says of an answer that means M: what is returned, the buffer, and the meaning
+-- what a contract says of an answer that means M: what is returned; and the buffer; and the meaning
 pub with-meaning :
     {R : Type 0} {r : R} {before after : List ℕ} (told : Answer (List ℕ) → R) (M : Answer (List ℕ) → Type 0)
     (a : Answer (List ℕ)) → M a → (r ≡ told a) × (after ≡ written a before)
-    → (r ≡ told a) × (after ≡ written a before) × Gives told M r before after
+    → (r ≡ told a) × ((after ≡ written a before) × Gives told M r before after)
 with-meaning told M a m p =
-    (p .0, p .1, record { answer = a; means = m; returned = p .0; buffer = p .1 })
+    (p .0, (p .1, record { answer = a; means = m; returned = p .0; buffer = p .1 }))
+
+-- and the first two of these, to a caller that needs no more
+pub without-meaning : {A B C : Type 0} → A × (B × C) → A × B
+without-meaning p = (p .0, p .1 .0)

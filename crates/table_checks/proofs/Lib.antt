@@ -1,3 +1,4 @@
 pub mod Searches
 pub mod Verdicts
 pub mod TableRefusal
+pub mod Causes

@@ -7,7 +7,7 @@ use lib.ListN.{length}
 use Rattle.limits.specs.Limits.{IsLeafCount}
 use Rattle.refusals.proofs.Answers.{judged-alone, judged-none}
 use Rattle.trees.specs.Tables.{IsTable, cells-refusal}
-use Rattle.trees.proofs.Tables.{passes}
+use Rattle.trees.proofs.Tables.{passes, passes-exactly}
 use Rattle.listings.specs.Sizes.{count-refusal, length-refusal, room-refusal}
 use Rattle.listings.proofs.ListingRefusal.{count-passes, length-passes, room-passes, count-right, length-right}
 use Rattle.listings.proofs.ListingRefusal.{room-right}
@@ -42,3 +42,8 @@ accepted-table n t due room h =
       is-table = passes n t (length-right _ _ (b .0)) (e .0);
       room-enough = room-right _ _ (d .0);
     }
+
+-- and a table with a zero diagonal and equal halves is not refused where the room is enough
+pub table-passes :
+    (n : ℕ) (t : List ℕ) (due room : ℕ) → IsLeafCount n → IsTable n t → due ≤ room → table-refusal n t due room ≡ none
+table-passes n t due room c h l = cells-left n t due room c (h .cells) l ∙ passes-exactly n t .1 h .1

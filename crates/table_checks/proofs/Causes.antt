@@ -1,0 +1,63 @@
+-- Which refusals may arise from a table: 1, 2, 3, then 4 and 5, whose leaves are below the leaf count.
+use mathlib.Core.Path.{_≡_, refl, sym, _∙_}
+use mathlib.Core.Bool.{_&&_}
+use mathlib.Core.List.{List}
+use mathlib.Core.Option.{Option, none, some}
+use Prim.Native.Nat.{ℕ, _*_, _/_, _%_, _<_}
+use native.Mathlib.Nat.{div-lt-iff-lt-mul, mod-lt}
+use native.Mathlib.Omega.{arith}
+use lib.Dec.{leb, eqb}
+use lib.ListN.{length}
+use Rattle.base.specs.Lists.{tab, in-rows}
+use Rattle.base.proofs.Lists.{length-tab, getD-tab, find-place}
+use Rattle.limits.specs.Limits.{most-leaves, IsLeafCount}
+use Rattle.refusals.specs.declared.Refusal.{Refusal}
+use Rattle.refusals.specs.declared.Refusal.the-variants.{LeafCount as Count, InputLength, OutputRoom, Diagonal, Halves}
+use Rattle.refusals.proofs.Causes.{Arises, arises-judged, arises-last, arises-unless}
+use Rattle.trees.specs.Tables.{first-filled, first-unequal, cells-refusal}
+use Rattle.listings.specs.Sizes.{count-refusal, length-refusal, room-refusal}
+use Rattle.listings.proofs.ListingRefusal.{count-right}
+use Rattle.table_checks.specs.Operations.{table-refusal}
+
+-- the leaf of a diagonal cell, and the leaves of two cells
+filled-below : (n : ℕ) (t : List ℕ) (i : ℕ) → first-filled n t ≡ some i → i < n
+unfolding first-filled
+filled-below n t i h =
+    let r = find-place _ (tab n (λ i. i)) i 0 h in
+    let inside : r .0 < n = rw length-tab at (r .1) in
+    rw (← r .2) (rw (getD-tab n (λ i. i) (r .0) 0 inside) inside)
+
+unequal-below : (n : ℕ) (t : List ℕ) (p : ℕ × ℕ) → 0 < n → first-unequal n t ≡ some p → (p .0 < n) × (p .1 < n)
+unfolding first-unequal in-rows
+unequal-below n t p z h =
+    let at : ℕ → ℕ × ℕ = λ k. (k / n, k % n) in
+    let r = find-place _ (tab (n * n) at) p (0, 0) h in
+    let inside : r .0 < n * n = rw length-tab at (r .1) in
+    let e : at (r .0) ≡ p = sym (getD-tab (n * n) at (r .0) (0, 0) inside) ∙ r .2 in
+    rw (← e) (div-lt-iff-lt-mul z .1 inside, mod-lt (r .0) z)
+
+-- What holds of each of these holds of the one that arises.
+pub record CellCauses (P : Refusal → Type 0) (n : ℕ) : Type 0 where
+  pub diagonal : IsLeafCount n → (i : ℕ) → i < n → P (Diagonal i)
+  pub halves : IsLeafCount n → (i j : ℕ) → i < n → j < n → P (Halves i j)
+
+module _ (P : Refusal → Type 0) (n : ℕ) (t : List ℕ) (w : CellCauses P n) where
+  pub cells-arise : IsLeafCount n → Arises P (cells-refusal n t)
+  cells-arise k = go (first-filled n t) refl (first-unequal n t) refl
+    where
+      go :
+          (o : Option ℕ) → first-filled n t ≡ o → (u : Option (ℕ × ℕ)) → first-unequal n t ≡ u
+          → Arises P (cells-refusal n t)
+      go (some i) e u f = unfold cells-refusal in rw (e, cells-refusal) (w .diagonal k i (filled-below n t i e))
+      go none e (some p) f =
+          let low = unequal-below n t p (omega (arith, k)) f in
+          unfold cells-refusal in rw (e, f, cells-refusal) (w .halves k (p .0) (p .1) (low .0) (low .1))
+      go none e none f = unfold cells-refusal in rw (e, f, cells-refusal) tt
+
+  pub table-arises : P Count → P InputLength → P OutputRoom → (due room : ℕ) → Arises P (table-refusal n t due room)
+  unfolding table-refusal count-refusal length-refusal room-refusal
+  table-arises count input output due room =
+      arises-judged P (count-refusal n) _ (arises-unless P (leb 3 n && leb n most-leaves) _ count)
+      (λ a. arises-judged P (length-refusal (n * n) (length t)) _ (arises-unless P (eqb (length t) (n * n)) _ input)
+      (λ b. arises-judged P (room-refusal due room) _ (arises-unless P (leb due room) _ output)
+      (λ d. arises-last P (cells-refusal n t) (cells-arise (count-right n a)))))
