@@ -234,12 +234,18 @@ static void guided_plain(void) { sink += (uint64_t)plain_guided(n, cells, merges
 static void poll(void) { sink += quartree_poll(n, records, QUARTREE_POLL_RECORDS(n), table, n * n); }
 static void poll_plain(void) { sink += (uint64_t)plain_poll(n, &records[0].a, table); }
 static void poll_floor(void) { floor_of(records, 5 * QUARTREE_POLL_RECORDS(n), table, n * n * sizeof *table); }
+static void check_sheet(void) { sink += quartree_check_sheet(sheet, sheet_len); }
+static void check_sheet_plain(void)
+{
+    size_t leaves, offset;
+    sink += (uint64_t)plain_sheet(sheet, sheet_len, &leaves, &offset);
+}
+static void check_sheet_floor(void) { floor_of(sheet, sheet_len, NULL, 0); }
 static void sheet_table(void) { sink += quartree_sheet_table(sheet, sheet_len, table, n * n); }
 static void sheet_table_plain(void) { sink += (uint64_t)plain_sheet_table(sheet, sheet_len, table); }
 static void sheet_table_floor(void) { floor_of(sheet, sheet_len, table, n * n * sizeof *table); }
 static void sheet_name(void) { sink += quartree_sheet_name(sheet, sheet_len, n - 1); }
 static void sheet_name_plain(void) { sink += plain_sheet_name(sheet, sheet_len, n - 1); }
-static void sheet_name_floor(void) { floor_of(sheet, sheet_len, NULL, 0); }
 static void rebuild_sheet(void) { sink += quartree_rebuild_sheet(sheet, sheet_len, bytes, 4 * (n - 2)); }
 static void rebuild_sheet_plain(void) { sink += (uint64_t)plain_rebuild_sheet(sheet, sheet_len, bytes); }
 static void rebuild_sheet_floor(void) { floor_of(sheet, sheet_len, bytes, 4 * (n - 2)); }
@@ -249,7 +255,7 @@ static void joining(void)
     sink += joined[0];
 }
 
-enum { CALLS = 12 };
+enum { CALLS = 13 };
 static const struct {
     const char *name;
     size_t most; /* leaves */
@@ -265,8 +271,9 @@ static const struct {
     {"rebuild", 128, 40, rebuild, rebuild_plain, rebuild_floor},
     {"guided", 128, 40, guided, guided_plain, rebuild_floor},
     {"poll", 32, 20, poll, poll_plain, poll_floor},
+    {"check_sheet", 128, 20, check_sheet, check_sheet_plain, check_sheet_floor},
     {"sheet_table", 128, 20, sheet_table, sheet_table_plain, sheet_table_floor},
-    {"sheet_name", 128, 20, sheet_name, sheet_name_plain, sheet_name_floor},
+    {"sheet_name", 128, 20, sheet_name, sheet_name_plain, check_sheet_floor},
     {"rebuild_sheet", 128, 20, rebuild_sheet, rebuild_sheet_plain, rebuild_sheet_floor},
 };
 

@@ -4,7 +4,10 @@
    have no root and no branch lengths. This header is the manual: the words, the sizes, the reply and the causes of
    refusal, what a caller owes, what every call promises, and then the calls.
 
-   Link with libquartree.a. Of the C library it takes memcpy, memmove, memset and memcmp at most. */
+   Link with libquartree.a. Of the C library it takes memcpy, memmove, memset and memcmp at most.
+
+   What the calls promise is proved, for every input. A name in quotes, as 'one-table', is a law in the part's sources;
+   docs/TRACE.md there says where it stands. */
 
 #ifndef QUARTREE_H
 #define QUARTREE_H
@@ -12,9 +15,9 @@
 #include <stddef.h>
 #include <stdint.h>
 
-#define QUARTREE_VERSION "0.1.0"
+#define QUARTREE_VERSION "0.2.0"
 #define QUARTREE_VERSION_MAJOR 0
-#define QUARTREE_VERSION_MINOR 1
+#define QUARTREE_VERSION_MINOR 2
 #define QUARTREE_VERSION_PATCH 0
 
 /* ---- Words ----------------------------------------------------------------------------------------------------------
@@ -39,7 +42,7 @@
    Table. n * n cells, row by row: cell (i,j) is at place n*i + j. Cell (i,j) of a tree's table is the number of
    unordered pairs p,q of other leaves with i,j paired against p,q. Its diagonal is 0 and its largest cell is at most
    7,875. A tree has a table when its own table equals it in every cell. Different trees on the same leaves have
-   different tables.
+   different tables ('one-table').
 
    Merges. P(k) is k(k-1)/2. Merging starts with n subtrees of one leaf; each leaf i has m(i) = 0. Two different
    subtrees A and B of a and b leaves are eligible when for every i in A and j in B, cell (i,j) is
