@@ -2,11 +2,10 @@
 -- each number is named once. So what a row gave stays.
 use mathlib.Core.Path.{_≡_, refl, sym, ap, _∙_}
 use mathlib.Core.Logic.{_≢_}
-use mathlib.Core.Bool.{false, _||_}
+use mathlib.Core.Bool.{false}
 use mathlib.Core.List.{List, [], _∷_}
 use mathlib.Core.Option.{none}
 use Prim.Native.Nat.{ℕ, zero, suc, _+_, _-_, _*_, _/_, _≤_, _<_}
-use native.Mathlib.Nat.{zero-add, add-zero}
 use native.Mathlib.Omega.{arith}
 use native.Mathlib.Decide.{decLt, ℕ-discrete}
 use lib.Dec.{eqb}
@@ -17,14 +16,13 @@ use Rattle.base.proofs.Bools.{never, or-neither, eqb-same}
 use Rattle.limits.specs.Limits.{most-leaves, IsLeafCount}
 use Rattle.pair_counts.specs.Pairs.{P}
 use Rattle.pair_counts.proofs.Pairs.{P-one, P-le, P-mono, most-pairs}
-use Rattle.trees.specs.Trees.{Tree, node, size}
-use Rattle.trees.specs.Listings.{child, rules-refusal-from, rules-refusal, KeepsRules, subtree-at}
+use Rattle.trees.specs.Trees.{Tree, size}
+use Rattle.trees.specs.Listings.{rules-refusal-from, rules-refusal, KeepsRules, subtree-at}
 use Rattle.trees.proofs.Trees.{size-node}
 use Rattle.trees.proofs.Rules.{child-in, place-keeps, place-kept}
 use Rattle.trees.proofs.SubtreesByRow.{subtree-at-leaf}
 use Rattle.tree_tables.specs.Orders.{most-numbers, most-sum, row-first, row-second, Prepared, whole, depth, at}
-use Rattle.tree_tables.specs.Orders.{Stands}
-use Rattle.tree_tables.specs.Orders.{Laid, HungRow, Hung}
+use Rattle.tree_tables.specs.Orders.{Stands, Laid, HungRow, Hung}
 use Rattle.tree_tables.proofs.Children.{Row, row-subtree-at, size-le}
 
 any-more : (x c : ℕ) (l : List ℕ) → any-in (eqb x) (c ∷ l) ≡ false → (eqb x c ≡ false) × (any-in (eqb x) l ≡ false)
@@ -159,6 +157,9 @@ module _ {n : ℕ} {l sizes counts places aboves befores : List ℕ} {c a b : �
     depth-is = unfold depth in rw (← x-is, ← y-is) (omega arith)
 
     -- after the row
+    abbrev deep : ℕ
+    deep = rest + (whole - (ua + ub))
+
     abbrev places′ : List ℕ
     places′ = stored places a b (at places c) (at places c + at sizes a)
 
@@ -166,7 +167,7 @@ module _ {n : ℕ} {l sizes counts places aboves befores : List ℕ} {c a b : �
     aboves′ = stored aboves a b ua ub
 
     abbrev befores′ : List ℕ
-    befores′ = stored befores a b (at befores c) (rest + (whole - (ua + ub)))
+    befores′ = stored befores a b (at befores c) deep
 
     differ : a ≢ b
     differ =
@@ -182,7 +183,7 @@ module _ {n : ℕ} {l sizes counts places aboves befores : List ℕ} {c a b : �
     kept k p u w da db s = (
       stored-other places a b (at places c) (at places c + at sizes a) k da db ∙ s .0,
       stored-other aboves a b ua ub k da db ∙ s .1,
-      stored-other befores a b (at befores c) (rest + (whole - (ua + ub))) k da db ∙ s .2,
+      stored-other befores a b (at befores c) deep k da db ∙ s .2,
     )
 
     -- a number that is a child of this row, or not
@@ -197,8 +198,7 @@ module _ {n : ℕ} {l sizes counts places aboves befores : List ℕ} {c a b : �
     first-stands = (
       stored-first places a b (at places c) (at places c + at sizes a) differ (fits places (f .hung .places-long)),
       stored-first aboves a b ua ub differ (fits aboves (f .hung .aboves-long)) ∙ omega (arith, ap P y-is),
-      stored-first befores a b (at befores c) (rest + (whole - (ua + ub))) differ
-          (fits befores (f .hung .befores-long)),
+      stored-first befores a b (at befores c) deep differ (fits befores (f .hung .befores-long)),
     )
       where
         fits : (xs : List ℕ) → length xs ≡ most-numbers → a < length xs
@@ -211,8 +211,7 @@ module _ {n : ℕ} {l sizes counts places aboves befores : List ℕ} {c a b : �
       stored-second places a b (at places c) (at places c + at sizes a) (fits places (f .hung .places-long))
           ∙ omega (arith, x-is),
       stored-second aboves a b ua ub (fits aboves (f .hung .aboves-long)) ∙ omega (arith, ap P x-is),
-      stored-second befores a b (at befores c) (rest + (whole - (ua + ub))) (fits befores (f .hung .befores-long))
-          ∙ depth-is,
+      stored-second befores a b (at befores c) deep (fits befores (f .hung .befores-long)) ∙ depth-is,
     )
       where
         fits : (xs : List ℕ) → length xs ≡ most-numbers → b < length xs
@@ -253,7 +252,7 @@ module _ {n : ℕ} {l sizes counts places aboves befores : List ℕ} {c a b : �
       places-long = stored-length places a b (at places c) (at places c + at sizes a) ∙ f .hung .places-long;
       aboves-long = stored-length aboves a b ua ub ∙ f .hung .aboves-long;
       befores-long =
-          stored-length befores a b (at befores c) (rest + (whole - (ua + ub))) ∙ f .hung .befores-long;
+          stored-length befores a b (at befores c) deep ∙ f .hung .befores-long;
       inside = λ d h. elim (ℕ-discrete d a) [
         | yes e ↦ rw (e, first-stands .0) (omega (arith, in-place, x-is, y-is))
         | no da ↦ elim (ℕ-discrete d b) [

@@ -42,9 +42,9 @@ pub fn gap(n: usize, cells: &[u32], listing: &[u16], out: &mut [i64]) -> Outcome
     if cells.len() != n * n {
         return Outcome::Refused(Refusal::InputLength);
     }
-    let judged = listings::judge(n, listing, n * n, out.len());
-    let Outcome::Done = judged else {
-        return judged;
+    let listed = listings::judge(n, listing, n * n, out.len());
+    let Outcome::Done = listed else {
+        return listed;
     };
     let verdict = table_checks::judge(n, cells, 0, 0);
     let Outcome::Done = verdict else {

@@ -1,5 +1,5 @@
-// The least depth between a leaf's place and that of each other leaf: the depth of the node in which the two meet,
-// which is the top of the path between them.
+// The least depth between a leaf's place and that of each other leaf: the depth of the node in which the two meet, the
+// top of the path between them.
 use super::plans::LEAVES;
 ghost use mathlib.Core.Path.{_≡_};
 ghost use Prim.Native.Nat.{ℕ, _<_, _≤_};

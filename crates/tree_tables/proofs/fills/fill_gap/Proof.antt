@@ -2,6 +2,8 @@
 use mathlib.Core.Path.{_≡_, refl}
 use mathlib.Core.List.{List}
 use Prim.Native.Nat.{ℕ, _-_, _*_, _/_, _%_, _≤_}
+use native.Mathlib.Omega.{arith}
+use borrow.Author.Needs.{needs}
 use lib.IntN.{ℤ, pos, _-ℤ_}
 use lib.ListN.{length, getD}
 use Rattle.base.specs.Lists.{filled}
@@ -11,8 +13,6 @@ use Rattle.trees.specs.Quartets.{quartets}
 use Rattle.tree_tables.specs.Operations.{gaps}
 use Rattle.tree_tables.proofs.RowsFilled.{rows-none, rows-room, rows-more, rows-all}
 use Rattle.tree_tables.proofs.Planned.{row-asked, cell-is, row-fits}
-use native.Mathlib.Omega.{arith}
-use borrow.Author.Needs.{needs}
 use Rattle.tree_tables.proofs.fills.fill_gap.Statement.{statement}
 use Rattle.tree_tables.proofs.fills.fill_gap.Tie as tie
 
@@ -47,15 +47,16 @@ find-row-requires c κs =
 subtract-row-requires : tie.Need-subtract-row-requires Inv-loop μ-loop
 subtract-row-requires c κs =
     let found = c .before .before .before .find-row .ensures in
-    let i = c .before .before .before .before .before .before .before .before .before .before .loop in
-    let made = c .before .before .before .before .before .before .before .before .before .before .before in
+    let tested = c .before .before .before .before .before .before .before .before .before in
+    let i = tested .before .loop in
+    let made = tested .before .before in
     let s = made .before .before .before .before .before .before .before in
     let p = s .pre in
-    let less = c .before .before .before .before .before .before .before .before .before .loop-test .taken in
-    let long = rows-room (gap-at (s .args .n) (s .args .cells .now) (s .args .listing .now)) _ (s .args .n) (i .i)
-    (i .inv .0) (p .3) (i .inv .2) in
+    let f = gap-at (s .args .n) (s .args .cells .now) (s .args .listing .now) in
+    let long = rows-room f _ (s .args .n) (i .i) (i .inv .0) (p .3) (i .inv .2) in
     let fits =
-    row-fits _ _ (p .0) (p .2) (made .plan .ensures) less (found .0) (found .1) (length (i .out))
+    row-fits _ _ (p .0) (p .2) (made .plan .ensures) (tested .loop-test .taken) (found .0) (found .1)
+    (length (i .out))
     (omega (arith, p .3, long)) in
     (fits, p .1)
 
@@ -69,14 +70,13 @@ loop-again : tie.Need-loop-again Inv-loop μ-loop
 loop-again c =
     let found = c .before .before .before .before .before .find-row .ensures in
     let written = c .before .subtract-row .ensures in
-    let i = c .before .before .before .before .before .before .before .before .before .before .before .before .loop in
-    let made = c .before .before .before .before .before .before .before .before .before .before .before .before .before
-    in
+    let tested = c .before .before .before .before .before .before .before .before .before .before .before in
+    let i = tested .before .loop in
+    let made = tested .before .before in
     let s = made .before .before .before .before .before .before .before in
     let p = s .pre in
-    let less = c .before .before .before .before .before .before .before .before .before .before .before .loop-test
-    .taken in
-    let cell = cell-is _ _ (p .0) (p .2) (made .plan .ensures) less (found .0) (found .1) in
+    let cell = cell-is _ _ (p .0) (p .2) (made .plan .ensures) (tested .loop-test .taken) (found .0)
+    (found .1) in
     let f = gap-at (s .args .n) (s .args .cells .now) (s .args .listing .now) in
     (omega arith, found .1 .long, rows-more f _ (s .args .n) (i .i) (written f _ (λ j lj. rw (cell j lj)) (i .inv .2)))
 
@@ -84,16 +84,16 @@ same-length : tie.Need-same-length Inv-loop μ-loop
 same-length c =
     let s = c .before .before .before .before .before .before .before .before .before in
     let i = c .before .loop in
-    rows-room (gap-at (s .args .n) (s .args .cells .now) (s .args .listing .now)) _ (s .args .n) (i .i) (i .inv .0)
-    (s .pre .3) (i .inv .2)
+    let f = gap-at (s .args .n) (s .args .cells .now) (s .args .listing .now) in
+    rows-room f _ (s .args .n) (i .i) (i .inv .0) (s .pre .3) (i .inv .2)
 
 returns : tie.Need-returns Inv-loop μ-loop
 unfolding gaps
 returns c =
     let s = c .before .before .before .before .before .before .before .before .before in
     let i = c .before .loop in
-    rows-all (gap-at (s .args .n) (s .args .cells .now) (s .args .listing .now)) _ (s .args .n) (i .i) (omega arith)
-    (i .inv .2)
+    let f = gap-at (s .args .n) (s .args .cells .now) (s .args .listing .now) in
+    rows-all f _ (s .args .n) (i .i) (omega arith) (i .inv .2)
 
 pub fill-gap-spec : {M : Type 1} → statement M
 fill-gap-spec =

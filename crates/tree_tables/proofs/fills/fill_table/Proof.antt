@@ -2,6 +2,8 @@
 use mathlib.Core.Path.{_≡_, refl}
 use mathlib.Core.List.{List}
 use Prim.Native.Nat.{ℕ, _-_, _*_, _/_, _%_, _≤_}
+use native.Mathlib.Omega.{arith}
+use borrow.Author.Needs.{needs}
 use lib.ListN.{length}
 use Rattle.base.specs.Lists.{filled}
 use Rattle.limits.specs.Limits.{most-leaves}
@@ -10,8 +12,6 @@ use Rattle.trees.specs.Quartets.{quartets}
 use Rattle.trees.specs.Tables.{table-of}
 use Rattle.tree_tables.proofs.RowsFilled.{rows-none, rows-room, rows-more, rows-all}
 use Rattle.tree_tables.proofs.Planned.{row-asked, cell-is, row-fits}
-use native.Mathlib.Omega.{arith}
-use borrow.Author.Needs.{needs}
 use Rattle.tree_tables.proofs.fills.fill_table.Statement.{statement}
 use Rattle.tree_tables.proofs.fills.fill_table.Tie as tie
 
@@ -46,15 +46,16 @@ find-row-requires c κs =
 write-row-requires : tie.Need-write-row-requires Inv-loop μ-loop
 write-row-requires c κs =
     let found = c .before .before .before .find-row .ensures in
-    let i = c .before .before .before .before .before .before .before .before .before .before .loop in
-    let made = c .before .before .before .before .before .before .before .before .before .before .before in
+    let tested = c .before .before .before .before .before .before .before .before .before in
+    let i = tested .before .loop in
+    let made = tested .before .before in
     let s = made .before .before .before .before .before .before .before in
     let p = s .pre in
-    let less = c .before .before .before .before .before .before .before .before .before .loop-test .taken in
-    let long = rows-room (cell-at (s .args .n) (s .args .listing .now)) _ (s .args .n) (i .i) (i .inv .0) (p .2)
-    (i .inv .2) in
+    let f = cell-at (s .args .n) (s .args .listing .now) in
+    let long = rows-room f _ (s .args .n) (i .i) (i .inv .0) (p .2) (i .inv .2) in
     let fits =
-    row-fits _ _ (p .0) (p .1) (made .plan .ensures) less (found .0) (found .1) (length (i .out))
+    row-fits _ _ (p .0) (p .1) (made .plan .ensures) (tested .loop-test .taken) (found .0) (found .1)
+    (length (i .out))
     (omega (arith, p .2, long)) in
     fits
 
@@ -68,15 +69,13 @@ loop-again : tie.Need-loop-again Inv-loop μ-loop
 loop-again c =
     let found = c .before .before .before .before .before .before .find-row .ensures in
     let written = c .before .before .write-row .ensures in
-    let i = c .before .before .before .before .before .before .before .before .before .before .before .before .before
-    .loop in
-    let made = c .before .before .before .before .before .before .before .before .before .before .before .before .before
-    .before in
+    let tested = c .before .before .before .before .before .before .before .before .before .before .before .before in
+    let i = tested .before .loop in
+    let made = tested .before .before in
     let s = made .before .before .before .before .before .before .before in
     let p = s .pre in
-    let less = c .before .before .before .before .before .before .before .before .before .before .before .before
-    .loop-test .taken in
-    let cell = cell-is _ _ (p .0) (p .1) (made .plan .ensures) less (found .0) (found .1) in
+    let cell = cell-is _ _ (p .0) (p .1) (made .plan .ensures) (tested .loop-test .taken) (found .0)
+    (found .1) in
     let f = cell-at (s .args .n) (s .args .listing .now) in
     (omega arith, found .1 .long, rows-more f _ (s .args .n) (i .i) (written f _ cell (i .inv .2)))
 

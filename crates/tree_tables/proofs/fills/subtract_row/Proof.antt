@@ -1,18 +1,18 @@
-use Rattle.base.proofs.Lists.{place}
-use native.Mathlib.Nat.{add-zero}
-use mir.Syntax.{w64}
-use mir.Facts.{toZ-ofZ}
-use Rattle.tree_tables.proofs.RowsFilled.{cell-place, cell-more}
 -- `counts::fills::subtract_row` meets its contract: the rows before i and j gaps of row i are written.
 use mathlib.Core.Path.{_≡_, refl, sym, _∙_}
 use mathlib.Core.List.{List}
 use Prim.Native.Nat.{ℕ, _+_, _-_, _*_, _≤_, _<_}
-use lib.IntN.{ℤ, pos, _-ℤ_}
-use lib.ListN.{length, length-set, getD}
-use Rattle.base.specs.Lists.{filled}
-use Rattle.tree_tables.specs.Orders.{cell-of}
+use native.Mathlib.Nat.{add-zero}
 use native.Mathlib.Omega.{arith}
 use borrow.Author.Needs.{needs}
+use lib.IntN.{ℤ, pos, _-ℤ_}
+use lib.ListN.{length, length-set, getD}
+use mir.Syntax.{w64}
+use mir.Facts.{toZ-ofZ}
+use Rattle.base.specs.Lists.{filled}
+use Rattle.base.proofs.Lists.{place}
+use Rattle.tree_tables.specs.Orders.{most-sum, cell-of}
+use Rattle.tree_tables.proofs.RowsFilled.{cell-place, cell-more}
 use Rattle.tree_tables.proofs.fills.subtract_row.Statement.{statement}
 use Rattle.tree_tables.proofs.fills.subtract_row.Tie as tie
 
@@ -25,6 +25,16 @@ Inv-loop n i base aboves tops cells out₀ j₀ out j =
 
 abbrev μ-loop : tie.MeasureT-loop
 μ-loop n i base aboves tops cells out₀ j₀ out j = n - j
+
+-- the place of the next gap
+here :
+    (c : tie.After-less Inv-loop μ-loop)
+    → (let b = c .before .before .before .before in
+    let a = b .before .before .args in
+    (a .i * a .n + b .loop .j < most-sum) × (a .i * a .n + b .loop .j < length (a .out .now)))
+here c =
+    let b = c .before .before .before .before in
+    cell-place (b .before .before .pre .0) (b .loop .j) (omega arith)
 
 loop-holds : tie.Need-loop-holds Inv-loop μ-loop
 loop-holds c = (search needs, refl, λ f l h e. rw add-zero e)
@@ -41,11 +51,8 @@ mul-less c = omega (arith, cell-place (c .before .before .before .pre .0) (c .be
 shared-slice-read-less : tie.Need-shared-slice-read-less Inv-loop μ-loop
 shared-slice-read-less c =
     let s = c .before .before .before .before in
-    omega (
-      arith,
-      place (s .args .n) (s .args .i) (c .before .before .loop .j) (s .pre .0 .row) (omega arith),
-      s .pre .1,
-    )
+    let j = c .before .before .loop .j in
+    omega (arith, place (s .args .n) (s .args .i) j (s .pre .0 .row) (omega arith), s .pre .1)
 
 count-at-requires : tie.Need-count-at-requires Inv-loop μ-loop
 count-at-requires c κs =
@@ -57,21 +64,10 @@ less-requires : tie.Need-less-requires Inv-loop μ-loop
 less-requires c κs = search needs
 
 mul-t16 : tie.Need-mul-t16 Inv-loop μ-loop
-mul-t16 c =
-    omega (
-      arith,
-      cell-place (c .before .before .before .before .before .before .pre .0)
-          (c .before .before .before .before .loop .j) (omega arith) .0,
-    )
+mul-t16 c = omega (arith, here c .0)
 
 slice-set-from-out : tie.Need-slice-set-from-out Inv-loop μ-loop
-slice-set-from-out c =
-    omega (
-      arith,
-      cell-place (c .before .before .before .before .before .before .pre .0)
-          (c .before .before .before .before .loop .j) (omega arith) .1,
-      c .before .before .before .before .loop .inv .1,
-    )
+slice-set-from-out c = omega (arith, here c .1, c .before .before .before .before .loop .inv .1)
 
 add-j : tie.Need-add-j Inv-loop μ-loop
 add-j c = search needs
@@ -85,7 +81,7 @@ loop-again c =
     let a = s .args in
     let i = c .before .before .before .before .loop in
     let exact = toZ-ofZ {w = w64} {z = c .less .result} (record { sfits = c .less .ok }) in
-    let room = cell-place (s .pre .0) (i .j) (omega arith) .1 in (
+    let room = here c .1 in (
       omega arith,
       simp length-set (i .inv .1),
       λ f l h e.

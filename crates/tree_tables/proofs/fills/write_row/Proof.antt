@@ -1,14 +1,14 @@
-use native.Mathlib.Nat.{add-zero}
-use Rattle.tree_tables.proofs.RowsFilled.{cell-place, cell-more}
 -- `counts::fills::write_row` meets its contract: the rows before i and j cells of row i are written.
 use mathlib.Core.Path.{_≡_, refl, sym, _∙_}
 use mathlib.Core.List.{List}
 use Prim.Native.Nat.{ℕ, _+_, _-_, _*_, _≤_, _<_}
-use lib.ListN.{length, length-set}
-use Rattle.base.specs.Lists.{filled}
-use Rattle.tree_tables.specs.Orders.{cell-of}
+use native.Mathlib.Nat.{add-zero}
 use native.Mathlib.Omega.{arith}
 use borrow.Author.Needs.{needs}
+use lib.ListN.{length, length-set}
+use Rattle.base.specs.Lists.{filled}
+use Rattle.tree_tables.specs.Orders.{most-sum, cell-of}
+use Rattle.tree_tables.proofs.RowsFilled.{cell-place, cell-more}
 use Rattle.tree_tables.proofs.fills.write_row.Statement.{statement}
 use Rattle.tree_tables.proofs.fills.write_row.Tie as tie
 
@@ -21,6 +21,14 @@ Inv-loop n i base aboves tops out₀ j₀ out j =
 abbrev μ-loop : tie.MeasureT-loop
 μ-loop n i base aboves tops out₀ j₀ out j = n - j
 
+-- the place of the next cell
+here :
+    (c : tie.After-count-at Inv-loop μ-loop)
+    → (let b = c .before .before in
+    let a = b .before .before .args in
+    (a .i * a .n + b .loop .j < most-sum) × (a .i * a .n + b .loop .j < length (a .out .now)))
+here c = cell-place (c .before .before .before .before .pre) (c .before .before .loop .j) (omega arith)
+
 loop-holds : tie.Need-loop-holds Inv-loop μ-loop
 loop-holds c = (search needs, refl, λ f l h e. rw add-zero e)
 
@@ -31,24 +39,16 @@ count-at-requires c κs =
     (omega (arith, fit .few), fit .covered j (omega arith), fit .fits j (omega arith))
 
 mul-out : tie.Need-mul-out Inv-loop μ-loop
-mul-out c =
-    omega (arith, cell-place (c .before .before .before .before .pre) (c .before .before .loop .j) (omega arith) .0)
+mul-out c = omega (arith, here c .0)
 
 add-out : tie.Need-add-out Inv-loop μ-loop
-add-out c =
-    omega (arith, cell-place (c .before .before .before .before .pre) (c .before .before .loop .j) (omega arith) .0)
+add-out c = omega (arith, here c .0)
 
 mul-out-2 : tie.Need-mul-out-2 Inv-loop μ-loop
-mul-out-2 c =
-    omega (arith, cell-place (c .before .before .before .before .pre) (c .before .before .loop .j) (omega arith) .0)
+mul-out-2 c = omega (arith, here c .0)
 
 slice-write-out : tie.Need-slice-write-out Inv-loop μ-loop
-slice-write-out c =
-    omega (
-      arith,
-      cell-place (c .before .before .before .before .pre) (c .before .before .loop .j) (omega arith) .1,
-      c .before .before .loop .inv .1,
-    )
+slice-write-out c = omega (arith, here c .1, c .before .before .loop .inv .1)
 
 add-j : tie.Need-add-j Inv-loop μ-loop
 add-j c = search needs
@@ -61,7 +61,7 @@ loop-again c =
     let s = c .before .before .before .before in
     let a = s .args in
     let i = c .before .before .loop in
-    let room = cell-place (s .pre) (i .j) (omega arith) .1 in (
+    let room = here c .1 in (
       omega arith,
       length-set (i .out) (a .i * a .n + i .j) (c .count-at .result) ∙ i .inv .1,
       λ f l h e.

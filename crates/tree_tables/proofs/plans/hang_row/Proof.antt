@@ -1,11 +1,11 @@
 -- `counts::plans::hang_row` meets its contract: what the two children are given is what the row asks.
 use Prim.Native.Nat.{_+_, _≤_}
+use native.Mathlib.Omega.{arith}
+use borrow.Author.Needs.{needs}
 use lib.ListN.{length-set}
 use Rattle.tree_tables.specs.Orders.{most-sum, whole}
 use Rattle.tree_tables.proofs.Hanging.{Next, first-below, second-below, few, in-place, above-small, sums-small}
 use Rattle.tree_tables.proofs.Hanging.{rest-small, hung-row}
-use native.Mathlib.Omega.{arith}
-use borrow.Author.Needs.{needs}
 use Rattle.tree_tables.proofs.plans.hang_row.Statement.{statement}
 use Rattle.tree_tables.proofs.plans.hang_row.Tie as tie
 

@@ -1,12 +1,13 @@
-use Rattle.tree_tables.proofs.Planned.{placed-more}
 -- `counts::plans::lay` meets its contract: the leaves below j stand at their places, which no other leaf has.
 use mathlib.Core.Path.{_≡_, _∙_}
-use Prim.Native.Nat.{_-_, _≤_}
-use lib.ListN.{length, length-set}
-use Rattle.limits.specs.Limits.{most-leaves}
-use Rattle.tree_tables.specs.Orders.{at, Placed}
+use mathlib.Core.List.{List}
+use Prim.Native.Nat.{ℕ, _-_, _≤_, _<_}
 use native.Mathlib.Omega.{arith}
 use borrow.Author.Needs.{needs}
+use lib.ListN.{length, length-set}
+use Rattle.limits.specs.Limits.{most-leaves}
+use Rattle.tree_tables.specs.Orders.{at, OwnPlaces, Placed}
+use Rattle.tree_tables.proofs.Planned.{placed-more}
 use Rattle.tree_tables.proofs.plans.lay.Statement.{statement}
 use Rattle.tree_tables.proofs.plans.lay.Tie as tie
 
@@ -16,6 +17,9 @@ Inv-loop n places befores order₀ depths₀ j₀ order depths j =
 
 abbrev μ-loop : tie.MeasureT-loop
 μ-loop n places befores order₀ depths₀ j₀ order depths j = n - j
+
+small : {n : ℕ} {places : List ℕ} → OwnPlaces n places → (j : ℕ) → j < n → at places j < most-leaves
+small own j l = omega (arith, own .inside j l, own .few)
 
 loop-holds : tie.Need-loop-holds Inv-loop μ-loop
 loop-holds c = search needs
@@ -27,14 +31,10 @@ element-copy-out-p : tie.Need-element-copy-out-p Inv-loop μ-loop
 element-copy-out-p c = search needs
 
 mul-order : tie.Need-mul-order Inv-loop μ-loop
-mul-order c =
-    let own = c .before .before .before .pre .0 in
-    omega (arith, own .inside (c .before .before .loop .j) (omega arith), own .few)
+mul-order c = omega (arith, small (c .before .before .before .pre .0) (c .before .before .loop .j) (omega arith))
 
 element-write-order : tie.Need-element-write-order Inv-loop μ-loop
-element-write-order c =
-    let own = c .before .before .before .pre .0 in
-    omega (arith, own .inside (c .before .before .loop .j) (omega arith), own .few)
+element-write-order c = small (c .before .before .before .pre .0) (c .before .before .loop .j) (omega arith)
 
 mul-depths : tie.Need-mul-depths Inv-loop μ-loop
 mul-depths c = search needs
@@ -44,13 +44,13 @@ element-copy-out-depths c = search needs
 
 mul-depths-2 : tie.Need-mul-depths-2 Inv-loop μ-loop
 mul-depths-2 c =
-    let own = c .before .before .before .before .pre .0 in
-    omega (arith, own .inside (c .before .before .before .loop .j) (omega arith), own .few)
+    let b = c .before .before .before in
+    omega (arith, small (b .before .pre .0) (b .loop .j) (omega arith))
 
 element-write-depths : tie.Need-element-write-depths Inv-loop μ-loop
 element-write-depths c =
-    let own = c .before .before .before .before .pre .0 in
-    omega (arith, own .inside (c .before .before .before .loop .j) (omega arith), own .few)
+    let b = c .before .before .before in
+    small (b .before .pre .0) (b .loop .j) (omega arith)
 
 add-j : tie.Need-add-j Inv-loop μ-loop
 add-j c = search needs

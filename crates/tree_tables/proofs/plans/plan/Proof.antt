@@ -2,13 +2,13 @@
 use mathlib.Core.Path.{_≡_, refl, ap, _∙_}
 use Prim.Native.Nat.{ℕ, _-_}
 use native.Mathlib.Nat.{zero-add}
+use native.Mathlib.Omega.{arith}
+use borrow.Author.Needs.{needs}
 use lib.ListN.{length, length-set, getD-replicate}
 use Rattle.pair_counts.specs.Pairs.{P}
 use Rattle.tree_tables.specs.Orders.{most-numbers, Prepared}
 use Rattle.tree_tables.proofs.Hanging.{pairs-small, hung-start}
 use Rattle.tree_tables.proofs.Planned.{under-others, own-places, plan-made}
-use native.Mathlib.Omega.{arith}
-use borrow.Author.Needs.{needs}
 use Rattle.tree_tables.proofs.plans.plan.Statement.{statement}
 use Rattle.tree_tables.proofs.plans.plan.Tie as tie
 
@@ -75,10 +75,10 @@ place-leaf-requires-2 c κs =
 
 hang-requires : tie.Need-hang-requires
 hang-requires c κs =
+    let b = c .before .before .before .before .before .before .before .before .before in
     let d = c .before .before .before .before .before .place-leaf2 .ensures in
-    let e = c .before .before .before .before .before .before .before .before .before .place-leaf .ensures in
-    let made = c .before .before .before .before .before .before .before .before .before .before .before .before .before
-    in
+    let e = b .place-leaf .ensures in
+    let made = b .before .before .before .before in
     let p = made .before .before .before .before .before .before .pre in (
       prepared (made .before .before),
       rw (d .0, d .1, d .2, e .0, e .1, e .2, p .2, p .3)
@@ -100,8 +100,8 @@ returns c =
     let b = c .before .before .before .before .before .before .before .before .before .before in
     let counted = b .before .before .before .before .before .before .before .before .before .before .before in
     let p = counted .before .before .before .before .pre in
-    plan-made _ _ (p .0) (p .1) (prepared counted) (c .before .before .before .before .before .hang .ensures)
-    (c .lay .ensures)
+    let hung = c .before .before .before .before .before .hang .ensures in
+    plan-made _ _ (p .0) (p .1) (prepared counted) hung (c .lay .ensures)
 
 pub plan-spec : {M : Type 1} → statement M
 plan-spec =

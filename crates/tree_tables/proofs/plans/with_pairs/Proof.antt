@@ -1,13 +1,13 @@
 -- `counts::plans::with_pairs` meets its contract: the entry at k of the pair counts is P(k), which is small.
 use mathlib.Core.Path.{_≡_}
 use Prim.Native.Nat.{_+_}
+use native.Mathlib.Omega.{arith}
+use borrow.Author.Needs.{needs}
 use lib.ListN.{getD}
 use Rattle.base.proofs.Lists.{getD-tab}
 use Rattle.limits.specs.Limits.{most-leaves}
 use Rattle.pair_counts.specs.Pairs.{P}
 use Rattle.tree_tables.proofs.Hanging.{pairs-small}
-use native.Mathlib.Omega.{arith}
-use borrow.Author.Needs.{needs}
 use Rattle.tree_tables.proofs.plans.with_pairs.Statement.{statement}
 use Rattle.tree_tables.proofs.plans.with_pairs.Tie as tie
 

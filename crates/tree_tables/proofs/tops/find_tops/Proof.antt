@@ -1,6 +1,6 @@
-use Rattle.tree_tables.proofs.LeastDepths.{topped}
 use native.Mathlib.Omega.{arith}
 use borrow.Author.Needs.{needs}
+use Rattle.tree_tables.proofs.LeastDepths.{topped}
 use Rattle.tree_tables.proofs.tops.find_tops.Statement.{statement}
 use Rattle.tree_tables.proofs.tops.find_tops.Tie as tie
 
@@ -28,12 +28,13 @@ element-write-tops c =
 
 returns : tie.Need-returns
 returns c =
-    let s = c .before .before .before .before .before in
-    let left = c .before .leftwards .ensures in
-    topped (s .args .n) (s .args .order .now) (s .args .depths .now)
-    (c .before .before .before .rightwards .last .1 .1 .1 .1 .0) (c .before .leftwards .last .1 .1 .1 .1 .0)
-    (s .args .p) (s .args .own) (s .pre .0) (s .pre .1) (left .0) (c .before .before .before .rightwards .ensures .1)
-    (left .1) (left .2)
+    let a = c .before .before .before .before .before .args in
+    let p = c .before .before .before .before .before .pre in
+    let right = c .before .before .before .rightwards in
+    let left = c .before .leftwards in
+    let other = left .ensures in
+    topped (a .n) (a .order .now) (a .depths .now) (right .last .1 .1 .1 .1 .0) (left .last .1 .1 .1 .1 .0) (a .p)
+    (a .own) (p .0) (p .1) (other .0) (right .ensures .1) (other .1) (other .2)
 
 pub find-tops-spec : {M : Type 1} → statement M
 find-tops-spec =

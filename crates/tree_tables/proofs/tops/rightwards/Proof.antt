@@ -1,12 +1,12 @@
-use Rattle.tree_tables.proofs.LeastDepths.{shallowest-none, after-more}
 -- `counts::tops::rightwards` meets its contract: the places between p and t have their least depths.
 use mathlib.Core.Path.{_≡_}
 use Prim.Native.Nat.{ℕ, _+_, _-_, _≤_, _<_}
+use native.Mathlib.Omega.{arith}
+use borrow.Author.Needs.{needs}
 use lib.ListN.{length}
 use Rattle.limits.specs.Limits.{most-leaves}
 use Rattle.tree_tables.specs.Orders.{at, Shallowest}
-use native.Mathlib.Omega.{arith}
-use borrow.Author.Needs.{needs}
+use Rattle.tree_tables.proofs.LeastDepths.{shallowest-none, after-more}
 use Rattle.tree_tables.proofs.tops.rightwards.Statement.{statement}
 use Rattle.tree_tables.proofs.tops.rightwards.Tie as tie
 
