@@ -1,4 +1,5 @@
-// Our own rebuild: which pairs are merged, in which order, and the rows of the listing that this makes.
+// Our own rebuild: which pairs are merged, in which order, and the rows of the listing that this makes. The table is
+// lent as cells, `table`, or in bytes, `packed`.
 use crate::eligible::as_expected;
 use crate::eligible::cell_at;
 use crate::eligible::pair_fits;
@@ -37,8 +38,8 @@ fn joins(
     requires { ⌜ SizesFit n (lent-table n (now table) (now packed)) (now label) (now m) (now sizes) (now p)
         × (getD (now label) a 0 ≡ a) × (a < b) × (b < n) ⌝ }
     ensures { λ r. ⌜ (r ≡ true)
-        ↔ Joins n (lent-table n (now (table .entry)) (now (packed .entry))) (now (label .entry)) (now (m .entry))
-        (now (sizes .entry)) a b ⌝ }
+        ↔ Joins n (lent-table n (now (table .entry)) (now (packed .entry)))
+        (now (label .entry)) (now (m .entry)) (now (sizes .entry)) a b ⌝ }
 {
     if index_of_u32(label[b]) != b {
         return false;
@@ -59,8 +60,8 @@ fn partner(
 ) -> usize
     requires { ⌜ SizesFit n (lent-table n (now table) (now packed)) (now label) (now m) (now sizes) (now p)
         × (getD (now label) a 0 ≡ a) × (a < n) ⌝ }
-    ensures { λ r. ⌜ Partner n (lent-table n (now (table .entry)) (now (packed .entry))) (now (label .entry))
-        (now (m .entry)) (now (sizes .entry)) a r ⌝ }
+    ensures { λ r. ⌜ Partner n (lent-table n (now (table .entry)) (now (packed .entry)))
+        (now (label .entry)) (now (m .entry)) (now (sizes .entry)) a r ⌝ }
 {
     let mut b: usize = a + 1;
     while b < n {
@@ -120,11 +121,10 @@ fn merge_leaf(
     made: usize,
 ) -> usize
     requires { ⌜ Given n (lent-table n (now table) (now packed)) (now p) × (0 < t) × (t < n)
-        × LeavesMerged n (lent-table n (now table) (now packed)) (now label) (now m) (now sizes) (now names)
-        (now rows) made (t + 1) ⌝ }
-    ensures { λ r. ⌜ LeavesMerged n (lent-table n (now (table .entry)) (now (packed .entry))) (now (label .exit))
-        (now (m .exit)) (now (sizes .exit))
-        (now (names .exit)) (now (rows .exit)) r t ⌝ }
+        × LeavesMerged n (lent-table n (now table) (now packed))
+        (now label) (now m) (now sizes) (now names) (now rows) made (t + 1) ⌝ }
+    ensures { λ r. ⌜ LeavesMerged n (lent-table n (now (table .entry)) (now (packed .entry)))
+        (now (label .exit)) (now (m .exit)) (now (sizes .exit)) (now (names .exit)) (now (rows .exit)) r t ⌝ }
 {
     let mut r: usize = made;
     let mut k: usize = partner(n, table, packed, label, m, sizes, p, t);
@@ -150,11 +150,10 @@ fn merge_leaves(
     p: &[u32; MOST + 1],
 )
     requires { ⌜ Given n (lent-table n (now table) (now packed)) (now p)
-        × LeavesMerged n (lent-table n (now table) (now packed)) (now label) (now m) (now sizes) (now names)
-        (now rows) 0 n ⌝ }
-    ensures { λ _. ⌜ AllMerged n (lent-table n (now (table .entry)) (now (packed .entry))) (now (label .exit))
-        (now (m .exit)) (now (sizes .exit))
-        (now (names .exit)) (now (rows .exit)) ⌝ }
+        × LeavesMerged n (lent-table n (now table) (now packed))
+        (now label) (now m) (now sizes) (now names) (now rows) 0 n ⌝ }
+    ensures { λ _. ⌜ AllMerged n (lent-table n (now (table .entry)) (now (packed .entry)))
+        (now (label .exit)) (now (m .exit)) (now (sizes .exit)) (now (names .exit)) (now (rows .exit)) ⌝ }
 {
     let mut r: usize = 0;
     let mut t: usize = n;
@@ -177,9 +176,8 @@ fn build(
 )
     requires { ⌜ IsLeafCount n × IsTable n (lent-table n (now table) (now packed))
         × Fresh (now label) (now m) (now sizes) (now names) (now rows) ⌝ }
-    ensures { λ _. ⌜ AllMerged n (lent-table n (now (table .entry)) (now (packed .entry))) (now (label .exit))
-        (now (m .exit)) (now (sizes .exit))
-        (now (names .exit)) (now (rows .exit)) ⌝ }
+    ensures { λ _. ⌜ AllMerged n (lent-table n (now (table .entry)) (now (packed .entry)))
+        (now (label .exit)) (now (m .exit)) (now (sizes .exit)) (now (names .exit)) (now (rows .exit)) ⌝ }
 {
     let p = pair_counts::pair_counts();
     label_leaves(n, label);
@@ -196,9 +194,8 @@ fn one_subtree_fits(
     m: &[u32; MOST],
 ) -> bool
     requires { ⌜ (n ≤ most-leaves) × (length (lent-table n (now table) (now packed)) ≡ n * n) ⌝ }
-    ensures { λ r. ⌜ (r ≡ true)
-        ↔ OneSubtreeFits n (lent-table n (now (table .entry)) (now (packed .entry))) (now (label .entry))
-        (now (m .entry)) ⌝ }
+    ensures { λ r. ⌜ (r ≡ true) ↔ OneSubtreeFits n (lent-table n (now (table .entry)) (now (packed .entry)))
+        (now (label .entry)) (now (m .entry)) ⌝ }
 {
     let mut k: usize = 1;
     while k < n {

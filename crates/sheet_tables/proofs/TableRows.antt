@@ -13,8 +13,7 @@ unfolding tab
 tab-add a zero f = rw (add-zero a) (sym (append-nil (tab a f)))
 tab-add a (suc m) f = rw (add-suc a m, tab-add a m f) (append-assoc (tab a f) (tab m (λ j. f (a + j))) _)
 
--- a buffer that is filled up to the place a, and then a part of it, from there on, by a rule that goes on with the
--- first
+-- a buffer that is filled up to the place a, and then a part of it from there on, by a rule that goes on with the first
 module _ {A : Type 0} (a m k : ℕ) (f g : ℕ → A) (base xs : List A) where
   -- the part, and what lies behind it
   abbrev part : List A

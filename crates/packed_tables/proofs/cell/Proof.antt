@@ -28,11 +28,8 @@ returns-3 : tie.Need-returns-3
 unfolding packed-cell
 returns-3 c =
     let a = c .before .before .before .before .before .args in
-    rw (
-      le-ltb (a .j) (a .n) (c .if3 .taken),
-      and-false (ltb (a .i) (a .n)),
-      and-false (is-packed (a .n) (a .packed .now)),
-    )
+    let first = ltb (a .i) (a .n) in
+    rw (le-ltb (a .j) (a .n) (c .if3 .taken), and-false first, and-false (is-packed (a .n) (a .packed .now)))
 
 -- the bytes are a packed table
 right :

@@ -30,11 +30,8 @@ unfolding with-packed-row
 returns-3 c =
     let a = c .before .before .before .before .before .before .args in
     let room = length (a .out .now) in
-    rw (
-      lt-leb (a .n) room (c .if3 .taken),
-      and-false (ltb (a .i) (a .n)),
-      and-false (is-packed (a .n) (a .packed .now)),
-    )
+    let row = ltb (a .i) (a .n) in
+    rw (lt-leb (a .n) room (c .if3 .taken), and-false row, and-false (is-packed (a .n) (a .packed .now)))
 
 -- the bytes are a packed table
 right :

@@ -64,8 +64,8 @@ slice-aggregate-rebuild-checked c = search needs
 
 -- the bytes are a packed table
 right :
-    (c : tie.Else3) → (let a = c .before .before .before .before .before .before .args in Packed (a .n)
-    (a .packed .now))
+    (c : tie.Else3)
+    → (let a = c .before .before .before .before .before .before .args in Packed (a .n) (a .packed .now))
 right c = (count (c .before .before), c .before .if2 .left)
 
 -- and it is the one that is meant

@@ -63,8 +63,8 @@ leaf-count-of-requires c κs = search needs
 -- the leaf count is right
 count : (c : tie.After-leaf-count-of) → IsLeafCount (c .leaf-count-of .result)
 count c =
-    rw (c .leaf-count-of .ensures .0)
-    (accepted-here _ _ _ (none-arises (c .before .before .before .before .before .before)) .count)
+    let none = none-arises (c .before .before .before .before .before .before) in
+    rw (c .leaf-count-of .ensures .0) (accepted-here _ _ _ none .count)
 
 sub-write-bytes : tie.Need-sub-write-bytes
 sub-write-bytes c = omega (arith, count c)
@@ -75,8 +75,8 @@ mul-write-bytes c = search needs
 write-bytes-requires : tie.Need-write-bytes-requires
 write-bytes-requires c κs =
     let counted = c .before .before in
-    let room = accepted-here _ _ _
-    (none-arises (counted .before .before .before .before .before .before)) .room-enough in
+    let none = none-arises (counted .before .before .before .before .before .before) in
+    let room = accepted-here _ _ _ none .room-enough in
     (omega (arith, count counted), rw (counted .leaf-count-of .ensures .0) room)
 
 same-length : tie.Need-same-length

@@ -44,8 +44,8 @@ returns c =
     let below = on .before .before .before .before in
     let a = below .before .before .before .before .args in
     let cells = packed-cells (a .n) (a .packed .now) in
-    let diagonal = filled-more _ (a .out .now) (below .write-below .ensures) (omega arith)
-    (sym (on-diagonal _ cells (a .i))) in
+    let zero = sym (on-diagonal _ cells (a .i)) in
+    let diagonal = filled-more _ (a .out .now) (below .write-below .ensures) (omega arith) zero in
     above .write-above .ensures (a .out .now) (omega arith) (on .write-on .ensures ∙ diagonal)
 
 pub row-of-spec : {M : Type 1} → statement M

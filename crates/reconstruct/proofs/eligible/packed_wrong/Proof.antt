@@ -36,8 +36,8 @@ cells-wrong-requires : tie.Need-cells-wrong-requires
 cells-wrong-requires c κs =
     let s = c .before .before .before .before .before in
     let few = s .pre .0 .0 .1 in
-    let row = length-take-le (s .args .n) (c .before .before .write-row .last .1 .1 .1 .0)
-    (rw (long (c .before .before)) few) in
+    let put = c .before .before in
+    let row = length-take-le (s .args .n) (put .write-row .last .1 .1 .1 .0) (rw (long put) few) in
     (few, omega (arith, row), s .pre .1, s .pre .3)
 
 returns : tie.Need-returns

@@ -24,11 +24,10 @@ merge-leaves-requires c κs =
     let named = c .before .before .before .before .before .before in
     let settled = named .before .before in
     let counted = settled .before .before in
-    let s = counted .before .before .before in (
+    let s = counted .before .before .before in
+    let t = lent-table (s .args .n) (now (s .args .table)) (now (s .args .packed)) in (
       record { leaf-count = s .pre .0; is-table = s .pre .1; pair-counts = counted .pair-counts .ensures },
-      leaves-merged-start (s .args .n) (s .pre .0 .1)
-          (lent-table (s .args .n) (now (s .args .table)) (now (s .args .packed))) (s .pre .2)
-          (settled .label-leaves .ensures)
+      leaves-merged-start (s .args .n) (s .pre .0 .1) t (s .pre .2) (settled .label-leaves .ensures)
           (named .name-leaves .ensures),
     )
 

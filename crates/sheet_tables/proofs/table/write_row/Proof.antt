@@ -1,9 +1,9 @@
 -- `sheet_tables::table::write_row` meets its contract: the part of the buffer behind the rows before row i begins with
 -- row i.
-use mathlib.Core.Path.{_≡_, ap, sym, _∙_}
+use mathlib.Core.Path.{_≡_, ap, _∙_}
 use mathlib.Core.List.{List}
 use Prim.Native.Nat.{ℕ, _+_, _-_, _*_, _≤_, _<_}
-use native.Mathlib.Nat.{mul-le-mul-right, suc-mul}
+use native.Mathlib.Nat.{mul-le-mul-right}
 use native.Mathlib.Omega.{arith}
 use borrow.Author.Needs.{needs}
 use borrow.Rule.Slice.PartMut.{same-len-mid, mid-len}
@@ -48,22 +48,22 @@ same-length c = search needs
 
 -- the row as it was written into the part
 module _ (c : tie.After-write-row) where
-  abbrev a : tie.Start
-  a = c .before .before .before .before
+  abbrev s : tie.Start
+  s = c .before .before .before .before
+
+  abbrev at : ℕ
+  at = s .args .i * s .args .n
 
   abbrev part : List ℕ
-  part =
-      take (length (a .args .out .now) - a .args .i * a .args .n) (drop (a .args .i * a .args .n) (a .args .out .now))
+  part = take (length (s .args .out .now) - at) (drop at (s .args .out .now))
 
-  enough : a .args .n ≤ length part
-  enough =
-      let at = a .args .i * a .args .n in
-      omega (arith, ends a, mid-len at (length (a .args .out .now)) (a .args .out .now) (omega arith))
+  enough : s .args .n ≤ length part
+  enough = omega (arith, ends s, mid-len at (length (s .args .out .now)) (s .args .out .now) (omega arith))
 
   row-put :
-      c .write-row .last .1 .1 .1 .0
-      ≡ filled (a .args .n) (mirrored (a .args .n) (packed-cells (a .args .n) (a .args .packed .now)) (a .args .i)) part
-  row-put = c .write-row .ensures ∙ row-read _ _ (a .pre .0) _ part (a .pre .1) enough
+      let cells = packed-cells (s .args .n) (s .args .packed .now) in
+      c .write-row .last .1 .1 .1 .0 ≡ filled (s .args .n) (mirrored (s .args .n) cells (s .args .i)) part
+  row-put = c .write-row .ensures ∙ row-read _ _ (s .pre .0) _ part (s .pre .1) enough
 
 returns : tie.Need-returns
 returns c =
@@ -75,10 +75,9 @@ returns c =
     let k = length xs - at in
     let same : (j : ℕ) → j < a .n → mirrored (a .n) cells (a .i) j ≡ table-rule (a .n) cells (at + j) =
     λ j l. rw (row-of (a .n) (a .i) j l, column-of (a .n) (a .i) j l) in
+    let long = ap length (row-put put) ∙ length-filled _ _ (a .n) (enough put) in
     record {
-      long =
-          same-len-mid at k xs (put .write-row .last .1 .1 .1 .0)
-          (ap length (row-put put) ∙ length-filled _ _ (a .n) (enough put));
+      long = same-len-mid at k xs (put .write-row .last .1 .1 .1 .0) long;
       row = λ base h e.
           rw (row-put put) (filled-on at (a .n) k (table-rule (a .n) cells) _ base xs e (enough put) same);
     }
