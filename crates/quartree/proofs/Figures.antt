@@ -1,18 +1,16 @@
 -- The figures of every refusal are small, so that a reply holds them. The idea: a refusal that comes with a place or a
 -- leaf is judged after the sizes.
-use mathlib.Core.Path.{_≡_, refl, sym, _∙_, ap}
+use mathlib.Core.Path.{_≡_, refl, _∙_, ap}
 use mathlib.Core.Logic.{inl, inr}
-use mathlib.Core.Bool.{Bool, true, false, cond, _&&_}
+use mathlib.Core.Bool.{_&&_}
 use mathlib.Core.List.{List, [], _∷_}
 use mathlib.Core.Option.{Option, none, some}
-use Prim.Native.Nat.{ℕ, suc, _+_, _-_, _*_, _/_, _%_, _<_}
-use native.Mathlib.Nat.{div-lt-iff-lt-mul, mod-lt}
+use Prim.Native.Nat.{ℕ, suc, _+_, _-_, _*_, _/_, _<_}
 use native.Mathlib.Omega.{arith}
 use lib.Dec.{leb, eqb}
 use lib.ListN.{length}
-use Rattle.base.specs.Lists.{tab, in-rows, any-in}
+use Rattle.base.specs.Lists.{any-in}
 use Rattle.base.proofs.Bools.{bool?}
-use Rattle.base.proofs.Lists.{length-tab, getD-tab, find-place}
 use Rattle.limits.specs.Limits.{most-leaves, IsLeafCount}
 use Rattle.refusals.specs.declared.Refusal.{Refusal}
 use Rattle.refusals.specs.declared.Refusal.the-variants.{LeafCount as Count, InputLength, OutputRoom, Diagonal, Halves}
@@ -21,14 +19,16 @@ use Rattle.refusals.specs.declared.Refusal.the-variants.{Proposal, SheetEnds, S
 use Rattle.refusals.specs.declared.Outcome.{Outcome}
 use Rattle.refusals.specs.Refusals.{number-of, figures-of, Answer, accepted, refused, first-refusal, answered, unless}
 use Rattle.refusals.specs.Refusals.{outcome}
+use Rattle.refusals.proofs.Causes.{Arises, arises-judged, arises-last, arises-unless}
 use Rattle.trees.specs.Listings.{child, rules-refusal-from, rules-refusal}
-use Rattle.trees.specs.Tables.{first-filled, first-unequal, cells-refusal}
+use Rattle.trees.specs.Tables.{cells-refusal}
 use Rattle.listings.specs.Sizes.{count-refusal, length-refusal, room-refusal}
 use Rattle.listings.specs.Operations.{listing-refusal, check-answer, standardise-answer}
 use Rattle.listings.proofs.ListingRefusal.{count-right, length-right}
 use Rattle.splits.specs.Operations.{splits-answer}
 use Rattle.table_checks.specs.Operations.{table-refusal}
 use Rattle.table_checks.proofs.TableRefusal.{accepted-table}
+use Rattle.table_checks.proofs.Causes.{CellCauses, cells-arise, table-arises}
 use Rattle.tree_tables.specs.Operations.{table-answer, gap-refusal, gap-answer}
 use Rattle.merging.specs.MergeLists.{Pair, after, each-eligible, subtrees}
 use Rattle.merging.specs.Rebuilds.{result, rebuilt, guided}
@@ -41,23 +41,23 @@ use Rattle.quartree.specs.Replies.{figure, reply, reply-with, number-alo
 use Rattle.quartree.specs.Steps.{AllSmall, SmallFigures, outcome-reply, outcome-reply-with}
 
 -- a number, and small figures as one
-pub number-small : (r : Refusal) → number-of r < 256
-number-small Count = omega arith
-number-small InputLength = omega arith
-number-small OutputRoom = omega arith
-number-small (Diagonal i) = omega arith
-number-small (Halves i j) = omega arith
-number-small NoTree = omega arith
-number-small (Child p) = omega arith
-number-small (NamedBefore p) = omega arith
-number-small (Question p) = omega arith
-number-small (Record k) = omega arith
-number-small (PairingCode k) = omega arith
-number-small (Proposal k) = omega arith
-number-small SheetEnds = omega arith
-number-small SheetLength = omega arith
-number-small (Name i) = omega arith
-number-small (SameName i) = omega arith
+pub number-between : (r : Refusal) → (0 < number-of r) × (number-of r < 256)
+number-between Count = (omega arith, omega arith)
+number-between InputLength = (omega arith, omega arith)
+number-between OutputRoom = (omega arith, omega arith)
+number-between (Diagonal i) = (omega arith, omega arith)
+number-between (Halves i j) = (omega arith, omega arith)
+number-between NoTree = (omega arith, omega arith)
+number-between (Child p) = (omega arith, omega arith)
+number-between (NamedBefore p) = (omega arith, omega arith)
+number-between (Question p) = (omega arith, omega arith)
+number-between (Record k) = (omega arith, omega arith)
+number-between (PairingCode k) = (omega arith, omega arith)
+number-between (Proposal k) = (omega arith, omega arith)
+number-between SheetEnds = (omega arith, omega arith)
+number-between SheetLength = (omega arith, omega arith)
+number-between (Name i) = (omega arith, omega arith)
+number-between (SameName i) = (omega arith, omega arith)
 
 pub figure-small : (l : List ℕ) → AllSmall l → figure l < 33554432
 figure-small [] h = omega arith
@@ -65,56 +65,50 @@ figure-small (x ∷ []) h = omega (arith, h .0)
 figure-small (i ∷ j ∷ l) h = omega (arith, h .0, h .1 .0)
 
 -- a refusal that may arise has small figures
-abbrev pub SmallRefusal : Option Refusal → Type 0
-SmallRefusal none = Unit {0}
-SmallRefusal (some r) = AllSmall (figures-of r)
+abbrev pub SmallRefusal : Refusal → Type 0
+SmallRefusal r = AllSmall (figures-of r)
+
+abbrev pub SmallIfRefused : Option Refusal → Type 0
+SmallIfRefused = Arises SmallRefusal
 
 -- The answers: of refusals judged one after the other, a later one is reached where none arises before it.
 pub judged-small :
-    (o : Option Refusal) (l : List (Option Refusal)) → SmallRefusal o → (o ≡ none → SmallRefusal (first-refusal l))
-    → SmallRefusal (first-refusal (o ∷ l))
-unfolding first-refusal
-judged-small none l p q = q refl
-judged-small (some r) l p q = p
+    (o : Option Refusal) (l : List (Option Refusal)) → SmallIfRefused o → (o ≡ none → SmallIfRefused (first-refusal l))
+    → SmallIfRefused (first-refusal (o ∷ l))
+judged-small = arises-judged SmallRefusal
 
-pub last-small : (o : Option Refusal) → SmallRefusal o → SmallRefusal (first-refusal (o ∷ []))
-unfolding first-refusal
-last-small none p = tt
-last-small (some r) p = p
+pub last-small : (o : Option Refusal) → SmallIfRefused o → SmallIfRefused (first-refusal (o ∷ []))
+last-small = arises-last SmallRefusal
 
-pub answered-small : {A : Type 0} (o : Option Refusal) (x : A) → SmallRefusal o → SmallFigures (outcome (answered o x))
+pub answered-small : {A : Type 0} (o : Option Refusal) (x : A) → SmallIfRefused o → SmallFigures (outcome (answered o x))
 unfolding answered outcome
 answered-small none x p = tt
 answered-small (some r) x p = p
 
 pub unless-small :
-    {A : Type 0} (o : Option Refusal) (a : Answer A) → SmallRefusal o → (o ≡ none → SmallFigures (outcome a))
+    {A : Type 0} (o : Option Refusal) (a : Answer A) → SmallIfRefused o → (o ≡ none → SmallFigures (outcome a))
     → SmallFigures (outcome (unless o a))
 unfolding unless outcome
 unless-small none a p q = q refl
 unless-small (some r) a p q = p
 
--- The sizes come with nothing.
-pub nothing : (b : Bool) (r : Refusal) → figures-of r ≡ [] → SmallRefusal (cond b none (some r))
-nothing true r e = tt
-nothing false r e = rw e tt
-
-pub count-small : (n : ℕ) → SmallRefusal (count-refusal n)
+-- The sizes come with no figure.
+pub count-small : (n : ℕ) → SmallIfRefused (count-refusal n)
 unfolding count-refusal
-count-small n = nothing (leb 3 n && leb n most-leaves) _ refl
+count-small n = arises-unless SmallRefusal (leb 3 n && leb n most-leaves) _ tt
 
-pub length-small : (due lent : ℕ) → SmallRefusal (length-refusal due lent)
+pub length-small : (due lent : ℕ) → SmallIfRefused (length-refusal due lent)
 unfolding length-refusal
-length-small due lent = nothing (eqb lent due) _ refl
+length-small due lent = arises-unless SmallRefusal (eqb lent due) _ tt
 
-pub room-small : (due room : ℕ) → SmallRefusal (room-refusal due room)
+pub room-small : (due room : ℕ) → SmallIfRefused (room-refusal due room)
 unfolding room-refusal
-room-small due room = nothing (leb due room) _ refl
+room-small due room = arises-unless SmallRefusal (leb due room) _ tt
 
 -- the place in a listing
 broken-small :
     (n : ℕ) (before : List ℕ) (p : ℕ) (l : List ℕ) → p + length l < 65536
-    → SmallRefusal (rules-refusal-from n before p l)
+    → SmallIfRefused (rules-refusal-from n before p l)
 unfolding rules-refusal-from
 broken-small n before p [] h = tt
 broken-small n before p (c ∷ l) h = elim (bool? (child n (p / 2) c)) [
@@ -126,7 +120,7 @@ broken-small n before p (c ∷ l) h = elim (bool? (child n (p / 2) c)) [
 ]
 
 -- a listing as it is judged
-pub listing-small : (n : ℕ) (l : List ℕ) (due room : ℕ) → SmallRefusal (listing-refusal n l due room)
+pub listing-small : (n : ℕ) (l : List ℕ) (due room : ℕ) → SmallIfRefused (listing-refusal n l due room)
 unfolding listing-refusal
 listing-small n l due room =
     judged-small (count-refusal n) _ (count-small n)
@@ -134,48 +128,21 @@ listing-small n l due room =
     (λ b. judged-small (room-refusal due room) _ (room-small due room)
     (λ d. last-small (rules-refusal n l) (places (count-right n a) (length-right _ _ b)))))
   where
-    places : IsLeafCount n → length l ≡ 2 * (n - 2) → SmallRefusal (rules-refusal n l)
+    places : IsLeafCount n → length l ≡ 2 * (n - 2) → SmallIfRefused (rules-refusal n l)
     places k e = unfold rules-refusal in broken-small n [] 0 l (omega (arith, k))
 
--- the leaf of a diagonal cell, and the leaves of two cells
-filled-small : (n : ℕ) (t : List ℕ) (i : ℕ) → first-filled n t ≡ some i → i < n
-unfolding first-filled
-filled-small n t i h =
-    let r = find-place _ (tab n (λ i. i)) i 0 h in
-    let inside : r .0 < n = rw length-tab at (r .1) in
-    rw (← r .2) (rw (getD-tab n (λ i. i) (r .0) 0 inside) inside)
+-- a table as it is judged, and its cells
+table-causes : (n : ℕ) → CellCauses SmallRefusal n
+table-causes n = record {
+  diagonal = λ k i l. (omega (arith, k), tt);
+  halves = λ k i j l m. (omega (arith, k), (omega (arith, k), tt));
+}
 
-unequal-small : (n : ℕ) (t : List ℕ) (p : ℕ × ℕ) → 0 < n → first-unequal n t ≡ some p → (p .0 < n) × (p .1 < n)
-unfolding first-unequal in-rows
-unequal-small n t p z h =
-    let at : ℕ → ℕ × ℕ = λ k. (k / n, k % n) in
-    let r = find-place _ (tab (n * n) at) p (0, 0) h in
-    let inside : r .0 < n * n = rw length-tab at (r .1) in
-    let e : at (r .0) ≡ p = sym (getD-tab (n * n) at (r .0) (0, 0) inside) ∙ r .2 in
-    rw (← e) (div-lt-iff-lt-mul z .1 inside, mod-lt (r .0) z)
+table-small : (n : ℕ) (t : List ℕ) → IsLeafCount n → SmallIfRefused (cells-refusal n t)
+table-small n t = cells-arise SmallRefusal n t (table-causes n)
 
-table-small : (n : ℕ) (t : List ℕ) → IsLeafCount n → SmallRefusal (cells-refusal n t)
-table-small n t k = go (first-filled n t) refl (first-unequal n t) refl
-  where
-    go :
-        (o : Option ℕ) → first-filled n t ≡ o → (u : Option (ℕ × ℕ)) → first-unequal n t ≡ u
-        → SmallRefusal (cells-refusal n t)
-    go (some i) e u f =
-        let low = filled-small n t i e in
-        unfold cells-refusal in rw (e, cells-refusal) (omega (arith, low, k), tt)
-    go none e (some p) f =
-        let low = unequal-small n t p (omega (arith, k)) f in
-        unfold cells-refusal in rw (e, f, cells-refusal) (omega (arith, low, k), (omega (arith, low, k), tt))
-    go none e none f = unfold cells-refusal in rw (e, f, cells-refusal) tt
-
--- a table as it is judged
-judged-table-small : (n : ℕ) (t : List ℕ) (due room : ℕ) → SmallRefusal (table-refusal n t due room)
-unfolding table-refusal
-judged-table-small n t due room =
-    judged-small (count-refusal n) _ (count-small n)
-    (λ a. judged-small (length-refusal (n * n) (length t)) _ (length-small _ _)
-    (λ b. judged-small (room-refusal due room) _ (room-small due room)
-    (λ d. last-small (cells-refusal n t) (table-small n t (count-right n a)))))
+judged-table-small : (n : ℕ) (t : List ℕ) (due room : ℕ) → SmallIfRefused (table-refusal n t due room)
+judged-table-small n t = table-arises SmallRefusal n t (table-causes n) tt tt tt
 
 -- The operations.
 pub check-small : (n : ℕ) (l : List ℕ) → SmallFigures (outcome (check-answer n l))
@@ -219,7 +186,7 @@ pub guided-small : (n : ℕ) (t p : List ℕ) (room : ℕ) → SmallFigures (out
 unfolding guided-answer
 guided-small n t p room = unless-small (guided-refusal n t p room) _ sizes steps
   where
-    sizes : SmallRefusal (guided-refusal n t p room)
+    sizes : SmallIfRefused (guided-refusal n t p room)
     sizes =
         unfold guided-refusal in
         judged-small (count-refusal n) _ (count-small n)

@@ -23,7 +23,7 @@ use Rattle.pairings.specs.Answers.{as-paired}
 use Rattle.quartree.specs.Replies.{number-reply}
 use Rattle.quartree.specs.Entries.{lent-pairing-answer}
 use Rattle.quartree.specs.Steps.{SmallPaired, paired-reply}
-use Rattle.quartree.proofs.Figures.{SmallRefusal, judged-small, last-small, listing-small}
+use Rattle.quartree.proofs.Figures.{SmallIfRefused, judged-small, last-small, listing-small}
 
 -- a list of four numbers is these four
 pub is-four : (q : List ℕ) → length q ≡ 4 → q ≡ getD q 0 0 ∷ getD q 1 0 ∷ getD q 2 0 ∷ getD q 3 0 ∷ []
@@ -41,11 +41,11 @@ paired-replied (refused r) = refl
 
 -- the figures are small: a position of the question
 position-small :
-    (o : Option ℕ) → ((p : ℕ) → o ≡ some p → p < 4) → SmallRefusal (elim o [ none ↦ none | some p ↦ some (Question p) ])
+    (o : Option ℕ) → ((p : ℕ) → o ≡ some p → p < 4) → SmallIfRefused (elim o [ none ↦ none | some p ↦ some (Question p) ])
 position-small none h = tt
 position-small (some p) h = (omega (arith, h p refl), tt)
 
-question-small : (n : ℕ) (q : List ℕ) → length q ≡ 4 → SmallRefusal (question-refusal n q)
+question-small : (n : ℕ) (q : List ℕ) → length q ≡ 4 → SmallIfRefused (question-refusal n q)
 unfolding question-refusal
 question-small n q e = position-small (find (wrong-at n q) (tab (length q) (λ p. p))) below
   where
@@ -56,7 +56,7 @@ question-small n q e = position-small (find (wrong-at n q) (tab (length q) (λ p
         let is : p ≡ r .0 = sym (r .2) ∙ getD-tab (length q) (λ p. p) (r .0) 0 inside in
         omega (arith, inside, is, e)
 
-paired-small : (o : Option Refusal) (x : ℕ) → SmallRefusal o → SmallPaired (as-paired (answered o x))
+paired-small : (o : Option Refusal) (x : ℕ) → SmallIfRefused o → SmallPaired (as-paired (answered o x))
 unfolding answered as-paired
 paired-small none x h = tt
 paired-small (some r) x h = h

@@ -6,15 +6,18 @@ ghost use mathlib.Core.Path.{_≡_};
 ghost use Prim.Native.Nat.{_+_, _*_, _<_};
 ghost use lib.ListN.{length};
 ghost use Rattle.refusals.specs.Refusals.{figures-of, written};
+ghost use Rattle.refusals.specs.Meanings.{Gives};
 ghost use Rattle.listings.specs.Operations.{check-answer, standardise-answer};
 ghost use Rattle.splits.specs.Operations.{splits-answer};
 ghost use Rattle.tree_tables.specs.Operations.{table-answer, gap-answer};
 ghost use Rattle.reconstruct.specs.Operations.{rebuild-answer, guided-answer};
+ghost use Rattle.reconstruct.specs.Meanings.{RebuildMeans, GuidedMeans};
 ghost use Rattle.sheets.specs.Sheets.{leaves-of, offset-of, name-start, name};
 ghost use Rattle.sheets.specs.Operations.{check-sheet-answer};
 ghost use Rattle.sheet_tables.specs.Operations.{sheet-table-answer};
 ghost use Rattle.sheet_names.specs.Operations.{name-answer};
 ghost use Rattle.sheet_trees.specs.Operations.{sheet-bytes-answer};
+ghost use Rattle.sheet_trees.specs.Meanings.{SheetBytesMean};
 ghost use Rattle.polls.specs.Operations.{poll-answer};
 ghost use Rattle.quartree.specs.Replies.{figure, refusal-reply, reply, number-reply, reply-with};
 ghost use Rattle.quartree.specs.Replies.{number-alone};
@@ -159,6 +162,8 @@ pub extern "C" fn quartree_rebuild(n: usize, cells: &[u32], out: &mut [u16]) -> 
     ensures answer { λ r. ⌜ r ≡ reply (rebuild-answer n (now (cells .entry)) (length (now (out .entry)))) ⌝ }
     ensures buffer { λ r. ⌜ now (out .exit)
         ≡ written (rebuild-answer n (now (cells .entry)) (length (now (out .entry)))) (now (out .entry)) ⌝ }
+    ensures meaning { λ r. ⌜ Gives reply (RebuildMeans n (now (cells .entry)) (length (now (out .entry)))) r
+        (now (out .entry)) (now (out .exit)) ⌝ }
 {
     reply_of(reconstruct::rebuild(n, cells, out))
 }
@@ -176,6 +181,9 @@ pub extern "C" fn quartree_rebuild_guided(
     ensures buffer { λ r. ⌜ now (out .exit)
         ≡ written (guided-answer n (now (cells .entry)) (now (merges .entry)) (length (now (out .entry))))
         (now (out .entry)) ⌝ }
+    ensures meaning { λ r. ⌜ Gives reply
+        (GuidedMeans n (now (cells .entry)) (now (merges .entry)) (length (now (out .entry)))) r
+        (now (out .entry)) (now (out .exit)) ⌝ }
 {
     reply_of(reconstruct::rebuild_guided(n, cells, merges, out))
 }
@@ -233,6 +241,8 @@ pub extern "C" fn quartree_rebuild_sheet(sheet: &[u8], listing: &mut [u8]) -> u3
         ≡ number-alone (sheet-bytes-answer (now (sheet .entry)) (length (now (listing .entry)))) ⌝ }
     ensures buffer { λ r. ⌜ now (listing .exit)
         ≡ written (sheet-bytes-answer (now (sheet .entry)) (length (now (listing .entry)))) (now (listing .entry)) ⌝ }
+    ensures meaning { λ r. ⌜ Gives number-alone (SheetBytesMean (now (sheet .entry)) (length (now (listing .entry)))) r
+        (now (listing .entry)) (now (listing .exit)) ⌝ }
 {
     sheet_trees::answer_number(sheet_trees::listing_bytes_of(sheet, listing))
 }

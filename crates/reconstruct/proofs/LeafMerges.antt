@@ -24,7 +24,7 @@ use Rattle.merging.proofs.Runs.{Eligible, wf-go, wf-runs, runs-more, eligible-s
 use Rattle.merging.proofs.MergeLists.{subtrees-pos, subtrees-step}
 use Rattle.reconstruct.specs.Fits.{Given, SizesFit, Joins}
 use Rattle.reconstruct.specs.Merged.{MergeReady, Merged}
-use Rattle.reconstruct.specs.StateArrays.{HoldsState, NumberOf, Listed, Current, MergingLeaf, LeavesMerged}
+use Rattle.reconstruct.specs.StateArrays.{HoldsState, UnusedNumber, Listed, Current, MergingLeaf, LeavesMerged}
 use Rattle.reconstruct.proofs.StateArrays.{is-least, fits-eligible, eligible-fits, fair, two-merges, still}
 use Rattle.reconstruct.proofs.StateArrays.{holds-step}
 use Rattle.reconstruct.proofs.AddedRows.{row-kept, node-unused, still-unused, subtree-at-new, subtree-at-old}
@@ -78,7 +78,7 @@ module _ {n : ℕ} {S : State} (w : WellFormed n S) {label m sizes names rows : 
 
   -- the name of a label comes before the new node, and two labels have two
   abbrev Name : ℕ → Type 0
-  Name x = NumberOf n old (getD names x 0) (S .tree x)
+  Name x = UnusedNumber n old (getD names x 0) (S .tree x)
 
   name-i : Name i
   name-i = l .named i zi (e .left) oi
@@ -106,7 +106,7 @@ module _ {n : ℕ} {S : State} (w : WellFormed n S) {label m sizes names rows : 
 
   named′ :
       (x : ℕ) → 0 < x → x < n → getD label′ x 0 ≡ x
-      → NumberOf n (old ++ (a ∷ b ∷ [])) (getD names′ x 0) ((step S i k) .tree x)
+      → UnusedNumber n (old ++ (a ∷ b ∷ [])) (getD names′ x 0) ((step S i k) .tree x)
   named′ x zx lx o = elim (ℕ-discrete x i) [
     | yes z ↦
         let own-name = getD-set-same names i (n + r) 0 (omega (arith, l .names-long, e .left)) in

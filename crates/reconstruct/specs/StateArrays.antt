@@ -23,8 +23,8 @@ pub record HoldsState (n : ℕ) (label m sizes : List ℕ) (S : State) : Type 0 
   pub sized : (k : ℕ) → k < n → getD label k 0 ≡ k → getD sizes k 0 ≡ size (S .tree k)
 
 -- the rows l have not used the number v, and the subtree T stands under it
-abbrev pub NumberOf : ℕ → List ℕ → ℕ → Tree → Type 0
-NumberOf n l v T = (uses (unused n) n l v ≡ true) × (subtree-at n l v ≡ T)
+abbrev pub UnusedNumber : ℕ → List ℕ → ℕ → Tree → Type 0
+UnusedNumber n l v T = (uses (unused n) n l v ≡ true) × (subtree-at n l v ≡ T)
 
 -- r rows are written, one for each merge so far, and they are lawful; each label but 0 has the number of its subtree
 pub record Listed (n : ℕ) (label names rows : List ℕ) (r : ℕ) (S : State) : Type 0 where
@@ -32,7 +32,7 @@ pub record Listed (n : ℕ) (label names rows : List ℕ) (r : ℕ) (S : State) 
   pub rows-long : length rows ≡ 2 * most-leaves
   pub kept : lawful (unused n) n (take (2 * r) rows) ≡ true
   pub named :
-      (k : ℕ) → 0 < k → k < n → getD label k 0 ≡ k → NumberOf n (take (2 * r) rows) (getD names k 0) (S .tree k)
+      (k : ℕ) → 0 < k → k < n → getD label k 0 ≡ k → UnusedNumber n (take (2 * r) rows) (getD names k 0) (S .tree k)
   pub counted : r + subtrees n S ≡ n
 
 -- leaf t's subtree, not leaf 0's, is the current one: leaves below t are single, t is its least leaf, and no two of the

@@ -36,7 +36,7 @@ leaf-fine : (n leaf : ℕ) → leaf < n → question-refusal n (leaf ∷ []) ≡
 unfolding question-refusal tab find any-in
 leaf-fine n leaf h = rw (lt-leb n leaf h, find, question-refusal)
 
-leaf-below : (n leaf : ℕ) → question-refusal n (leaf ∷ []) ≡ none → leaf < n
+pub leaf-below : (n leaf : ℕ) → question-refusal n (leaf ∷ []) ≡ none → leaf < n
 leaf-below n leaf h = elim (decLt leaf n) [
   | yes l ↦ l
   | no g ↦ absurd (none-not-some _ (Question 0) (leaf-high n leaf (omega arith)) h)

@@ -1,3 +1,4 @@
 pub mod SheetTree
 pub mod Listed
 pub mod InBytes
+pub mod Promises

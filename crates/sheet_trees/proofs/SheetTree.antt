@@ -10,11 +10,9 @@ use Rattle.limits.specs.Limits.{IsLeafCount}
 use Rattle.refusals.specs.declared.Refusal.{Refusal}
 use Rattle.refusals.specs.Refusals.{first-refusal}
 use Rattle.refusals.proofs.Answers.{judged-on, judged-none, unless-passed}
-use Rattle.trees.specs.Tables.{IsTable, cells-refusal}
 use Rattle.listings.specs.Sizes.{count-refusal, room-refusal}
 use Rattle.listings.proofs.ListingRefusal.{room-passes}
-use Rattle.table_checks.specs.Operations.{table-refusal}
-use Rattle.table_checks.proofs.TableRefusal.{cells-left}
+use Rattle.table_checks.proofs.TableRefusal.{table-passes}
 use Rattle.packed_tables.specs.Packed.{table-with}
 use Rattle.packed_tables.proofs.PackedIsTable.{sheet-is-table}
 use Rattle.reconstruct.specs.Operations.{rebuild-answer, packed-answer}
@@ -24,15 +22,6 @@ use Rattle.sheets.specs.Operations.{sheet-ends-refusal, sheet-length-refusal, k
 use Rattle.sheets.proofs.SheetRefusal.{Accepted, accepted-sheet}
 use Rattle.sheet_tables.proofs.PackedSheet.{bytes-long, sheet-cells}
 use Rattle.sheet_trees.specs.Operations.{sheet-tree}
-
--- a table with a zero diagonal and equal halves passes the checks placed before 6
-wrong-none : (n : ℕ) (t : List ℕ) → IsTable n t → cells-refusal n t ≡ none
-unfolding cells-refusal
-wrong-none n t h = rw (h .zero-diagonal, h .equal-halves, cells-refusal)
-
-table-passes :
-    (n : ℕ) (t : List ℕ) (due room : ℕ) → IsLeafCount n → IsTable n t → due ≤ room → table-refusal n t due room ≡ none
-table-passes n t due room c h l = cells-left n t due room c (h .cells) l ∙ wrong-none n t h
 
 -- a refusal that does not arise is passed
 passed : (o : Option Refusal) (l : List (Option Refusal)) → o ≡ none → first-refusal (o ∷ l) ≡ first-refusal l

@@ -5,10 +5,12 @@ ghost use mathlib.Core.Option.{none};
 ghost use Prim.Native.Nat.{_-_, _*_, _≤_};
 ghost use lib.ListN.{length};
 ghost use Rattle.refusals.specs.Refusals.{outcome-of, outcome, written};
+ghost use Rattle.refusals.specs.Meanings.{Gives};
 ghost use Rattle.sheets.specs.Sheets.{leaves-of};
 ghost use Rattle.sheets.specs.Operations.{sheet-refusal};
 ghost use Rattle.sheet_trees.specs.Operations.{sheet-tree, sheet-listing-answer, sheet-bytes-answer};
 ghost use Rattle.sheet_trees.specs.Operations.{outcome-number};
+ghost use Rattle.sheet_trees.specs.Meanings.{SheetBytesMean};
 
 mod bytes;
 
@@ -57,6 +59,8 @@ pub fn listing_bytes_of(sheet: &[u8], out: &mut [u8]) -> Outcome
     ensures answer { λ r. ⌜ r ≡ outcome (sheet-bytes-answer (now (sheet .entry)) (length (now (out .entry)))) ⌝ }
     ensures buffer { λ r. ⌜ now (out .exit)
         ≡ written (sheet-bytes-answer (now (sheet .entry)) (length (now (out .entry)))) (now (out .entry)) ⌝ }
+    ensures meaning { λ r. ⌜ Gives outcome (SheetBytesMean (now (sheet .entry)) (length (now (out .entry)))) r
+        (now (out .entry)) (now (out .exit)) ⌝ }
 {
     let judged = judge_rows(sheet, 4, out.len());
     let Outcome::Done = judged else {

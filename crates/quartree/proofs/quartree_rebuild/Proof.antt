@@ -1,6 +1,9 @@
--- `quartree::quartree_rebuild` meets its contract: reply and buffer are those of the operation that it calls.
+-- `quartree::quartree_rebuild` meets its contract: reply, buffer and meaning are those of the operation that
+-- it calls.
 use mathlib.Core.Path.{ap, _∙_}
 use borrow.Author.Needs.{needs}
+use Rattle.reconstruct.proofs.Promises.{rebuild-gives}
+use Rattle.quartree.specs.Replies.{reply}
 use Rattle.quartree.specs.Steps.{outcome-reply}
 use Rattle.quartree.proofs.Figures.{rebuild-small, replied}
 use Rattle.quartree.proofs.quartree_rebuild.Statement.{statement}
@@ -18,7 +21,7 @@ same-length c = search needs
 returns : tie.Need-returns
 returns c =
     let done = c .before .before .before .rebuild .ensures in
-    (c .reply-of .ensures ∙ ap outcome-reply (done .0) ∙ replied _, done .1)
+    rebuild-gives _ _ _ reply (c .reply-of .ensures ∙ ap outcome-reply (done .0) ∙ replied _, done .1 .0)
 
 pub quartree-rebuild-spec : {M : Type 1} → statement M
 quartree-rebuild-spec = tie.close (tie.spec rebuild-requires reply-of-requires same-length returns)

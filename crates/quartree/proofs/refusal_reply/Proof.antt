@@ -2,7 +2,7 @@
 use native.Mathlib.Omega.{arith}
 use borrow.Author.Needs.{needs}
 use Rattle.refusals.specs.Refusals.{figures-of}
-use Rattle.quartree.proofs.Figures.{number-small, figure-small}
+use Rattle.quartree.proofs.Figures.{number-between, figure-small}
 use Rattle.quartree.proofs.refusal_reply.Statement.{statement}
 use Rattle.quartree.proofs.refusal_reply.Tie as tie
 
@@ -24,7 +24,7 @@ add-result : tie.Need-add-result
 add-result c =
     let r = c .before .before .args .r in
     let figures = figure-small (figures-of r) (c .before .before .pre) in
-    omega (arith, c .before .number .ensures, number-small r, c .figure-of .ensures, figures)
+    omega (arith, c .before .number .ensures, number-between r, c .figure-of .ensures, figures)
 
 returns : tie.Need-returns
 returns c = rw (c .before .number .ensures, c .figure-of .ensures)

@@ -7,12 +7,14 @@ use native.Mathlib.Omega.{arith}
 use borrow.Author.Needs.{needs}
 use lib.ListN.{length}
 use Rattle.limits.specs.Limits.{IsLeafCount}
+use Rattle.refusals.specs.Refusals.{outcome}
 use Rattle.refusals.proofs.Answers.{done-none, unless-told}
 use Rattle.sheets.specs.Sheets.{leaves-of}
 use Rattle.sheets.specs.Operations.{sheet-refusal}
 use Rattle.sheet_trees.specs.Operations.{sheet-bytes-answer}
 use Rattle.sheet_trees.proofs.SheetTree.{accepted-here}
 use Rattle.sheet_trees.proofs.InBytes.{fits, bytes-answer, bytes-refused, bytes-written}
+use Rattle.sheet_trees.proofs.Promises.{sheet-bytes-gives}
 use Rattle.sheet_trees.proofs.listing_bytes_of.Statement.{statement}
 use Rattle.sheet_trees.proofs.listing_bytes_of.Tie as tie
 
@@ -27,7 +29,9 @@ enum-told-2 c = search needs
 
 returns : tie.Need-returns
 unfolding sheet-bytes-answer
-returns c = unless-told _ _ _ _ _ (c .before .before .judge-rows .ensures) (c .enum-told2 .given .1)
+returns c =
+    sheet-bytes-gives _ _ outcome
+    (unless-told _ _ _ _ _ (c .before .before .judge-rows .ensures) (c .enum-told2 .given .1))
 
 -- `judge_rows` found nothing to refuse
 none-arises :
@@ -52,7 +56,8 @@ enum-told-4 c = search needs
 returns-2 : tie.Need-returns-2
 returns-2 c =
     let made = c .before .before .before in
-    let answer = made .tree-of .ensures .0 in (
+    let answer = made .tree-of .ensures .0 in
+    sheet-bytes-gives _ _ outcome (
       answer ∙ bytes-answer _ _ (none-arises (made .before .before)),
       bytes-refused _ _ (none-arises (made .before .before)) _ _ (sym answer ∙ c .enum-told4 .given .1),
     )
@@ -89,7 +94,8 @@ returns-3 c =
     let made = told .before .before .before in
     let answer = made .tree-of .ensures .0 in
     let put = rw (counted .leaf-count-of .ensures .0, made .tree-of .ensures .1)
-    at (c .before .before .write-bytes .ensures) in (
+    at (c .before .before .write-bytes .ensures) in
+    sheet-bytes-gives _ _ outcome (
       answer ∙ bytes-answer _ _ (none-arises (made .before .before)),
       put ∙ bytes-written _ _ (none-arises (made .before .before)) _ _ (sym answer ∙ told .enum-told3 .given .1),
     )
