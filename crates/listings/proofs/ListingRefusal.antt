@@ -14,7 +14,7 @@ use Rattle.base.proofs.Lists.{none-not-some}
 use Rattle.limits.specs.Limits.{most-leaves, IsLeafCount}
 use Rattle.refusals.specs.declared.Refusal.{Refusal}
 use Rattle.refusals.specs.declared.Refusal.the-variants.{LeafCount as Count, InputLength, OutputRoom}
-use Rattle.refusals.specs.Refusals.{first-refusal}
+use Rattle.refusals.specs.Refusals.{judged}
 use Rattle.refusals.proofs.Answers.{judged-here, judged-on, judged-none, judged-alone}
 use Rattle.trees.specs.Listings.{rules-refusal, KeepsRules}
 use Rattle.listings.specs.Sizes.{count-refusal, length-refusal, room-refusal}
@@ -26,27 +26,27 @@ is-leaf-count n h =
 
 -- The tests of sizes, one before the rest of what is judged: a size is refused, or the rest decides.
 module _ (l : List (Option Refusal)) where
-  pub count-stops : (n : ℕ) → (leb 3 n && leb n most-leaves) ≡ false → first-refusal (count-refusal n ∷ l) ≡ some Count
+  pub count-stops : (n : ℕ) → (leb 3 n && leb n most-leaves) ≡ false → judged (count-refusal n ∷ l) ≡ some Count
   unfolding count-refusal
   count-stops n h = rw h (judged-here Count l)
 
-  pub count-passes : (n : ℕ) → IsLeafCount n → first-refusal (count-refusal n ∷ l) ≡ first-refusal l
+  pub count-passes : (n : ℕ) → IsLeafCount n → judged (count-refusal n ∷ l) ≡ judged l
   unfolding count-refusal
   count-passes n h = rw (le-leb 3 n (h .0), le-leb n most-leaves (h .1)) (judged-on l)
 
-  pub length-stops : (due lent : ℕ) → lent ≢ due → first-refusal (length-refusal due lent ∷ l) ≡ some InputLength
+  pub length-stops : (due lent : ℕ) → lent ≢ due → judged (length-refusal due lent ∷ l) ≡ some InputLength
   unfolding length-refusal
   length-stops due lent h = rw (ne-eqb lent due h) (judged-here InputLength l)
 
-  pub length-passes : (due lent : ℕ) → lent ≡ due → first-refusal (length-refusal due lent ∷ l) ≡ first-refusal l
+  pub length-passes : (due lent : ℕ) → lent ≡ due → judged (length-refusal due lent ∷ l) ≡ judged l
   unfolding length-refusal
   length-passes due lent h = rw (eq-eqb lent due h) (judged-on l)
 
-  pub room-stops : (due room : ℕ) → room < due → first-refusal (room-refusal due room ∷ l) ≡ some OutputRoom
+  pub room-stops : (due room : ℕ) → room < due → judged (room-refusal due room ∷ l) ≡ some OutputRoom
   unfolding room-refusal
   room-stops due room h = rw (lt-leb due room h) (judged-here OutputRoom l)
 
-  pub room-passes : (due room : ℕ) → due ≤ room → first-refusal (room-refusal due room ∷ l) ≡ first-refusal l
+  pub room-passes : (due room : ℕ) → due ≤ room → judged (room-refusal due room ∷ l) ≡ judged l
   unfolding room-refusal
   room-passes due room h = rw (le-leb due room h) (judged-on l)
 

@@ -18,8 +18,7 @@ cells-before n i j = sum-below i (λ r. n - (r + 1)) + (j - (i + 1))
 
 -- cell (i, j) of the table that has the cells c above the diagonal: below it the mirror cell, on it 0
 unfoldable pub mirrored : ℕ → List ℕ → ℕ → ℕ → ℕ
-mirrored n c i j =
-    cond (ltb i j) (getD c (cells-before n i j) 0) (cond (ltb j i) (getD c (cells-before n j i) 0) 0)
+mirrored n c i j = cond (ltb i j) (getD c (cells-before n i j) 0) (cond (ltb j i) (getD c (cells-before n j i) 0) 0)
 
 -- the table that has the cells c above the diagonal: n × n cells, row by row
 unfoldable pub table-with : ℕ → List ℕ → List ℕ

@@ -4,7 +4,7 @@ use mathlib.Core.List.{List}
 use mathlib.Core.Option.{none, some}
 use Prim.Native.Nat.{ℕ}
 use Rattle.refusals.specs.declared.Refusal.{Refusal}
-use Rattle.refusals.specs.Refusals.{first-refusal, answered}
+use Rattle.refusals.specs.Refusals.{judged, answered}
 use Rattle.trees.specs.Listings.{tree-of}
 use Rattle.listings.specs.Operations.{listing-refusal, question-refusal}
 use Rattle.pairings.specs.declared.Paired.the-variants.{As, Refused}
@@ -14,17 +14,17 @@ use Rattle.pairings.specs.Operations.{pairing-in, pairing-answer}
 module _ (n : ℕ) (l q : List ℕ) where
   pub listing-refused :
       (r : Refusal) → listing-refusal n l 0 0 ≡ some r → as-paired (pairing-answer n l q) ≡ Refused r
-  unfolding pairing-answer as-paired answered first-refusal
+  unfolding pairing-answer as-paired answered judged
   listing-refused r h = rw h
 
   pub question-refused :
       (r : Refusal) → listing-refusal n l 0 0 ≡ none → question-refusal n q ≡ some r
       → as-paired (pairing-answer n l q) ≡ Refused r
-  unfolding pairing-answer as-paired answered first-refusal
+  unfolding pairing-answer as-paired answered judged
   question-refused r h g = rw (h, g)
 
   pub question-answered :
       listing-refusal n l 0 0 ≡ none → question-refusal n q ≡ none
       → as-paired (pairing-answer n l q) ≡ As (pairing-in (tree-of n l) q)
-  unfolding pairing-answer as-paired answered first-refusal
+  unfolding pairing-answer as-paired answered judged
   question-answered h g = rw (h, g)

@@ -17,7 +17,7 @@ use Rattle.refusals.specs.declared.Refusal.the-variants.{LeafCount as Count, In
 use Rattle.refusals.specs.declared.Refusal.the-variants.{NoTree, Child, NamedBefore, Question, Record, PairingCode}
 use Rattle.refusals.specs.declared.Refusal.the-variants.{Proposal, SheetEnds, SheetLength, Name, SameName}
 use Rattle.refusals.specs.declared.Outcome.{Outcome}
-use Rattle.refusals.specs.Refusals.{number-of, figures-of, Answer, accepted, refused, first-refusal, answered, unless}
+use Rattle.refusals.specs.Refusals.{number-of, figures-of, Answer, accepted, refused, judged, answered, unless}
 use Rattle.refusals.specs.Refusals.{outcome}
 use Rattle.refusals.proofs.Causes.{Arises, arises-judged, arises-last, arises-unless}
 use Rattle.trees.specs.Listings.{child, rules-refusal-from, rules-refusal}
@@ -73,14 +73,15 @@ SmallIfRefused = Arises SmallRefusal
 
 -- The answers: of refusals judged one after the other, a later one is reached where none arises before it.
 pub judged-small :
-    (o : Option Refusal) (l : List (Option Refusal)) → SmallIfRefused o → (o ≡ none → SmallIfRefused (first-refusal l))
-    → SmallIfRefused (first-refusal (o ∷ l))
+    (o : Option Refusal) (l : List (Option Refusal)) → SmallIfRefused o → (o ≡ none → SmallIfRefused (judged l))
+    → SmallIfRefused (judged (o ∷ l))
 judged-small = arises-judged SmallRefusal
 
-pub last-small : (o : Option Refusal) → SmallIfRefused o → SmallIfRefused (first-refusal (o ∷ []))
+pub last-small : (o : Option Refusal) → SmallIfRefused o → SmallIfRefused (judged (o ∷ []))
 last-small = arises-last SmallRefusal
 
-pub answered-small : {A : Type 0} (o : Option Refusal) (x : A) → SmallIfRefused o → SmallFigures (outcome (answered o x))
+pub answered-small :
+    {A : Type 0} (o : Option Refusal) (x : A) → SmallIfRefused o → SmallFigures (outcome (answered o x))
 unfolding answered outcome
 answered-small none x p = tt
 answered-small (some r) x p = p

@@ -13,7 +13,7 @@ use Rattle.base.proofs.Lists.{length-tab, getD-tab, find-place}
 use Rattle.limits.specs.Limits.{most-leaves, IsLeafCount}
 use Rattle.refusals.specs.declared.Refusal.{Refusal}
 use Rattle.refusals.specs.declared.Refusal.the-variants.{Question}
-use Rattle.refusals.specs.Refusals.{Answer, accepted, refused, first-refusal, answered, unless}
+use Rattle.refusals.specs.Refusals.{Answer, accepted, refused, judged, answered, unless}
 use Rattle.refusals.proofs.Answers.{unless-passed}
 use Rattle.listings.specs.Sizes.{length-refusal}
 use Rattle.listings.specs.Operations.{listing-refusal, wrong-at, question-refusal}
@@ -41,7 +41,8 @@ paired-replied (refused r) = refl
 
 -- the figures are small: a position of the question
 position-small :
-    (o : Option ℕ) → ((p : ℕ) → o ≡ some p → p < 4) → SmallIfRefused (elim o [ none ↦ none | some p ↦ some (Question p) ])
+    (o : Option ℕ) → ((p : ℕ) → o ≡ some p → p < 4)
+    → SmallIfRefused (elim o [ none ↦ none | some p ↦ some (Question p) ])
 position-small none h = tt
 position-small (some p) h = (omega (arith, h p refl), tt)
 
@@ -81,4 +82,4 @@ module _ (n : ℕ) (l q : List ℕ) where
 
     pub asked : length q ≡ 4 → lent-pairing-answer n l q ≡ pairing-answer n l q
     unfolding lent-pairing-answer
-    asked h = unless-passed _ _ (count-passes _ n c ∙ length-passes _ 4 (length q) h ∙ unfold first-refusal in refl)
+    asked h = unless-passed _ _ (count-passes _ n c ∙ length-passes _ 4 (length q) h ∙ unfold judged in refl)

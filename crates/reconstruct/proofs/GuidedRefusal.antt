@@ -9,7 +9,7 @@ use lib.Dec.{leb}
 use lib.ListN.{length}
 use Rattle.refusals.specs.declared.Refusal.the-variants.{LeafCount as Count, InputLength, OutputRoom}
 use Rattle.limits.specs.Limits.{most-leaves, IsLeafCount}
-use Rattle.refusals.specs.Refusals.{first-refusal}
+use Rattle.refusals.specs.Refusals.{judged}
 use Rattle.refusals.proofs.Answers.{judged-alone}
 use Rattle.listings.specs.Sizes.{room-refusal}
 use Rattle.listings.proofs.ListingRefusal.{count-stops, count-passes, length-stops, length-passes, room-stops}
@@ -35,7 +35,7 @@ module _ (n : ℕ) (B : List ℕ) (room : ℕ) where
     bytes-refused h = count-passes _ n c ∙ length-stops _ (n * (n - 1)) (length B) h
 
     module _ (e : length B ≡ n * (n - 1)) where
-      room-left : packed-refusal n B room ≡ first-refusal (room-refusal (2 * (n - 2)) room ∷ [])
+      room-left : packed-refusal n B room ≡ judged (room-refusal (2 * (n - 2)) room ∷ [])
       unfolding packed-refusal
       room-left = count-passes _ n c ∙ length-passes _ (n * (n - 1)) (length B) e
 
@@ -43,7 +43,7 @@ module _ (n : ℕ) (B : List ℕ) (room : ℕ) where
       room-refused h = room-left ∙ room-stops _ (2 * (n - 2)) room h
 
       pub none-refused : 2 * (n - 2) ≤ room → packed-refusal n B room ≡ none
-      none-refused h = room-left ∙ room-passes _ (2 * (n - 2)) room h ∙ (unfold first-refusal in refl)
+      none-refused h = room-left ∙ room-passes _ (2 * (n - 2)) room h ∙ (unfold judged in refl)
 
 module _ (n : ℕ) (t p : List ℕ) (room : ℕ) where
   pub count-refused-guided : (leb 3 n && leb n most-leaves) ≡ false → guided-refusal n t p room ≡ some Count

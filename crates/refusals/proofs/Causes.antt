@@ -4,7 +4,7 @@ use mathlib.Core.Bool.{Bool, true, false, cond}
 use mathlib.Core.List.{List, [], _∷_, _++_}
 use mathlib.Core.Option.{Option, none, some}
 use Rattle.refusals.specs.declared.Refusal.{Refusal}
-use Rattle.refusals.specs.Refusals.{first-refusal}
+use Rattle.refusals.specs.Refusals.{judged}
 
 -- a refusal, if one arises, is as P says
 abbrev pub Arises : (Refusal → Type 0) → Option Refusal → Type 0
@@ -14,21 +14,21 @@ Arises P (some r) = P r
 module _ (P : Refusal → Type 0) where
   -- what is judged later is reached where none arises before it
   pub arises-judged :
-      (o : Option Refusal) (l : List (Option Refusal)) → Arises P o → (o ≡ none → Arises P (first-refusal l))
-      → Arises P (first-refusal (o ∷ l))
-  unfolding first-refusal
+      (o : Option Refusal) (l : List (Option Refusal)) → Arises P o → (o ≡ none → Arises P (judged l))
+      → Arises P (judged (o ∷ l))
+  unfolding judged
   arises-judged none l p q = q refl
   arises-judged (some r) l p q = p
 
-  pub arises-last : (o : Option Refusal) → Arises P o → Arises P (first-refusal (o ∷ []))
-  unfolding first-refusal
+  pub arises-last : (o : Option Refusal) → Arises P o → Arises P (judged (o ∷ []))
+  unfolding judged
   arises-last none p = tt
   arises-last (some r) p = p
 
   pub arises-both :
-      (l m : List (Option Refusal)) → Arises P (first-refusal l) → Arises P (first-refusal m)
-      → Arises P (first-refusal (l ++ m))
-  unfolding first-refusal
+      (l m : List (Option Refusal)) → Arises P (judged l) → Arises P (judged m)
+      → Arises P (judged (l ++ m))
+  unfolding judged
   arises-both [] m p q = q
   arises-both (none ∷ l) m p q = arises-both l m p q
   arises-both (some r ∷ l) m p q = p

@@ -56,10 +56,10 @@ pub data Answer (A : Type 0) : Type 0 where
   refused : Refusal → Answer A
 
 -- the first refusal that arises, of those judged one after the other
-unfoldable pub first-refusal : List (Option Refusal) → Option Refusal
-first-refusal [] = none
-first-refusal (none ∷ l) = first-refusal l
-first-refusal (some r ∷ l) = some r
+unfoldable pub judged : List (Option Refusal) → Option Refusal
+judged [] = none
+judged (none ∷ l) = judged l
+judged (some r ∷ l) = some r
 
 -- the answer: the refusal that arises, or the result
 unfoldable pub answered : {A : Type 0} → Option Refusal → A → Answer A

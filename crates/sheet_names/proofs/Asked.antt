@@ -14,7 +14,7 @@ use Rattle.refusals.specs.declared.Refusal.{Refusal}
 use Rattle.refusals.specs.declared.Refusal.the-variants.{Question}
 use Rattle.refusals.specs.declared.Outcome.{Outcome}
 use Rattle.refusals.specs.declared.Outcome.the-variants.{Done, Refused}
-use Rattle.refusals.specs.Refusals.{Answer, accepted, refused, first-refusal, answered, outcome}
+use Rattle.refusals.specs.Refusals.{Answer, accepted, refused, judged, answered, outcome}
 use Rattle.refusals.proofs.Answers.{judged-alone, judged-none, outcome-answered, done-none}
 use Rattle.listings.specs.Operations.{question-refusal}
 use Rattle.sheet_names.specs.declared.NamePlace.{NamePlace}
@@ -59,16 +59,16 @@ shown-whole x y e h = rw e h
 module _ (S : List ℕ) (n o leaf : ℕ) where
   pub sheet-refused :
       (r : Refusal) → kept-sheet-refusal S n o 0 0 ≡ some r → outcome (name-answer S n o leaf) ≡ Refused r
-  unfolding name-answer outcome answered first-refusal
+  unfolding name-answer outcome answered judged
   sheet-refused r h = rw h
 
   pub leaf-refused :
       kept-sheet-refusal S n o 0 0 ≡ none → n ≤ leaf → outcome (name-answer S n o leaf) ≡ Refused (Question 0)
-  unfolding name-answer outcome answered first-refusal
+  unfolding name-answer outcome answered judged
   leaf-refused h l = rw (h, leaf-high n leaf l)
 
   pub name-given : kept-sheet-refusal S n o 0 0 ≡ none → leaf < n → outcome (name-answer S n o leaf) ≡ Done
-  unfolding name-answer outcome answered first-refusal
+  unfolding name-answer outcome answered judged
   name-given h l = rw (h, leaf-fine n leaf l)
 
   pub asked-shown : shown (name-answer S n o leaf) ≡ shown-if (outcome (name-answer S n o leaf)) (name S leaf)

@@ -3,7 +3,7 @@ use mathlib.Core.List.{List, [], _∷_}
 use Prim.Native.Nat.{ℕ, _+_}
 use lib.ListN.{length}
 use Rattle.refusals.specs.declared.Outcome.the-variants.{Done, Refused}
-use Rattle.refusals.specs.Refusals.{Answer, accepted, refused, first-refusal, answered}
+use Rattle.refusals.specs.Refusals.{Answer, accepted, refused, judged, answered}
 use Rattle.listings.specs.Operations.{question-refusal}
 use Rattle.sheets.specs.Sheets.{leaves-of, offset-of, name-start, name}
 use Rattle.sheets.specs.Operations.{kept-sheet-refusal}
@@ -12,7 +12,7 @@ use Rattle.sheet_names.specs.declared.NamePlace.{NamePlace}
 -- the name of a leaf, of a sheet kept with its figures: 13, 1, 14, 15, 16, and 9 with 0 for a leaf ≥ n
 unfoldable pub name-answer : (S : List ℕ) (n o leaf : ℕ) → Answer (List ℕ)
 name-answer S n o leaf =
-    answered (first-refusal (kept-sheet-refusal S n o 0 0 ∷ question-refusal n (leaf ∷ []) ∷ [])) (name S leaf)
+    answered (judged (kept-sheet-refusal S n o 0 0 ∷ question-refusal n (leaf ∷ []) ∷ [])) (name S leaf)
 
 -- what is shown of it: no bytes where it is refused
 unfoldable pub shown : Answer (List ℕ) → List ℕ

@@ -8,7 +8,7 @@ use native.Mathlib.Omega.{arith}
 use lib.ListN.{length, take, drop}
 use Rattle.limits.specs.Limits.{IsLeafCount}
 use Rattle.refusals.specs.declared.Refusal.{Refusal}
-use Rattle.refusals.specs.Refusals.{first-refusal}
+use Rattle.refusals.specs.Refusals.{judged}
 use Rattle.refusals.proofs.Answers.{judged-on, judged-none, unless-passed}
 use Rattle.listings.specs.Sizes.{count-refusal, room-refusal}
 use Rattle.listings.proofs.ListingRefusal.{room-passes}
@@ -24,7 +24,7 @@ use Rattle.sheet_tables.proofs.PackedSheet.{bytes-long, sheet-cells}
 use Rattle.sheet_trees.specs.Operations.{sheet-tree}
 
 -- a refusal that does not arise is passed
-passed : (o : Option Refusal) (l : List (Option Refusal)) → o ≡ none → first-refusal (o ∷ l) ≡ first-refusal l
+passed : (o : Option Refusal) (l : List (Option Refusal)) → o ≡ none → judged (o ∷ l) ≡ judged l
 passed o l h = rw h (judged-on l)
 
 -- An accepted sheet.

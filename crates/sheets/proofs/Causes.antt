@@ -10,7 +10,7 @@ use Rattle.limits.specs.Limits.{most-leaves, IsLeafCount}
 use Rattle.refusals.specs.declared.Refusal.{Refusal}
 use Rattle.refusals.specs.declared.Refusal.the-variants.{LeafCount as Count, OutputRoom, SheetEnds, SheetLength}
 use Rattle.refusals.specs.declared.Refusal.the-variants.{Name, SameName}
-use Rattle.refusals.specs.Refusals.{first-refusal}
+use Rattle.refusals.specs.Refusals.{judged}
 use Rattle.refusals.proofs.Causes.{Arises, arises-judged, arises-last, arises-both, arises-unless, arises-where}
 use Rattle.listings.specs.Sizes.{count-refusal, room-refusal}
 use Rattle.listings.proofs.ListingRefusal.{count-right}
@@ -31,9 +31,9 @@ pub record SheetCauses (P : Refusal → Type 0) (n : ℕ) : Type 0 where
 module _ (P : Refusal → Type 0) (S : List ℕ) (n o : ℕ) (w : SheetCauses P n) where
   -- one after the other
   each-arises :
-      (f : ℕ → Option Refusal) (m : ℕ) → ((i : ℕ) → i < m → Arises P (f i)) → Arises P (first-refusal (tab m f))
+      (f : ℕ → Option Refusal) (m : ℕ) → ((i : ℕ) → i < m → Arises P (f i)) → Arises P (judged (tab m f))
   unfolding tab
-  each-arises f zero h = unfold first-refusal in tt
+  each-arises f zero h = unfold judged in tt
   each-arises f (suc m) h =
       arises-both P (tab m f) (f m ∷ []) (each-arises f m (λ i l. h i (omega arith)))
       (arises-last P (f m) (h m (omega arith)))

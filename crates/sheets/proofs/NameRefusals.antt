@@ -14,40 +14,40 @@ use Rattle.base.specs.Lists.{tab}
 use Rattle.base.proofs.Lists.{none-not-some}
 use Rattle.refusals.specs.declared.Refusal.{Refusal}
 use Rattle.refusals.specs.declared.Refusal.the-variants.{Name, SameName}
-use Rattle.refusals.specs.Refusals.{first-refusal}
+use Rattle.refusals.specs.Refusals.{judged}
 use Rattle.refusals.proofs.Answers.{judged-alone, judged-here}
 use Rattle.sheets.specs.Sheets.{next-name, name-start}
 use Rattle.sheets.specs.Operations.{good-at, repeated, name-refusal, names-end-refusal, names-refusal}
 use Rattle.sheets.proofs.Names.{start-next}
 
 -- where none of these arises, those after them are judged; where one does, it is the answer
-judged-after : (l m : List (Option Refusal)) → first-refusal l ≡ none → first-refusal (l ++ m) ≡ first-refusal m
-unfolding first-refusal
+judged-after : (l m : List (Option Refusal)) → judged l ≡ none → judged (l ++ m) ≡ judged m
+unfolding judged
 judged-after [] m h = refl
 judged-after (none ∷ l) m h = judged-after l m h
 judged-after (some r ∷ l) m h = absurd (none-not-some (some r) r refl h)
 
-judged-before : (l m : List (Option Refusal)) (r : Refusal) → first-refusal l ≡ some r → first-refusal (l ++ m) ≡ some r
-unfolding first-refusal
+judged-before : (l m : List (Option Refusal)) (r : Refusal) → judged l ≡ some r → judged (l ++ m) ≡ some r
+unfolding judged
 judged-before [] m r h = absurd (none-not-some none r h refl)
 judged-before (none ∷ l) m r h = judged-before l m r h
 judged-before (some x ∷ l) m r h = h
 
 judged-both :
-    (l m : List (Option Refusal)) → first-refusal (l ++ m) ≡ none → (first-refusal l ≡ none) × (first-refusal m ≡ none)
-unfolding first-refusal
+    (l m : List (Option Refusal)) → judged (l ++ m) ≡ none → (judged l ≡ none) × (judged m ≡ none)
+unfolding judged
 judged-both [] m h = (refl, h)
 judged-both (none ∷ l) m h = judged-both l m h
 judged-both (some r ∷ l) m h = absurd (none-not-some (some r) r refl h)
 
 -- One refusal a leaf, from leaf 0 on.
 module _ (f : ℕ → Option Refusal) where
-  none-yet : (k : ℕ) → first-refusal (tab k f) ≡ none → f k ≡ none → first-refusal (tab (k + 1) f) ≡ none
-  unfolding tab first-refusal
+  none-yet : (k : ℕ) → judged (tab k f) ≡ none → f k ≡ none → judged (tab (k + 1) f) ≡ none
+  unfolding tab judged
   none-yet k h e = rw (add-one k, judged-after (tab k f) (f k ∷ []) h, e)
 
   first-found :
-      (n k : ℕ) (r : Refusal) → first-refusal (tab k f) ≡ none → k < n → f k ≡ some r → first-refusal (tab n f) ≡ some r
+      (n k : ℕ) (r : Refusal) → judged (tab k f) ≡ none → k < n → f k ≡ some r → judged (tab n f) ≡ some r
   unfolding tab
   first-found zero k r h l e = absurd (omega arith)
   first-found (suc n) k r h l e = elim (decLt k n) [
@@ -55,7 +55,7 @@ module _ (f : ℕ → Option Refusal) where
     | no g ↦ (let q : n ≡ k = omega arith in rw (q, judged-after (tab k f) (f k ∷ []) h, e) (judged-here r []))
   ]
 
-  none-of : (n : ℕ) → first-refusal (tab n f) ≡ none → (k : ℕ) → k < n → f k ≡ none
+  none-of : (n : ℕ) → judged (tab n f) ≡ none → (k : ℕ) → k < n → f k ≡ none
   unfolding tab
   none-of zero h k l = absurd (omega arith)
   none-of (suc n) h k l =
@@ -78,12 +78,12 @@ test-passes false r h = refl
 -- The names of a sheet S of n leaves, whose first cell is at o.
 module _ (S : List ℕ) (n o : ℕ) where
   names-found :
-      (i : ℕ) (r : Refusal) → first-refusal (tab i (name-refusal S o)) ≡ none → i < n → name-refusal S o i ≡ some r
+      (i : ℕ) (r : Refusal) → judged (tab i (name-refusal S o)) ≡ none → i < n → name-refusal S o i ≡ some r
       → names-refusal S n o ≡ some r
   unfolding names-refusal
   names-found i r h l e = judged-before (tab n (name-refusal S o)) _ r (first-found (name-refusal S o) n i r h l e)
 
-  names-over : first-refusal (tab n (name-refusal S o)) ≡ none → names-refusal S n o ≡ names-end-refusal S n o
+  names-over : judged (tab n (name-refusal S o)) ≡ none → names-refusal S n o ≡ names-end-refusal S n o
   unfolding names-refusal
   names-over h = judged-after (tab n (name-refusal S o)) _ h ∙ judged-alone (names-end-refusal S n o)
 
@@ -107,10 +107,10 @@ module _ (S : List ℕ) (n o : ℕ) where
 pub record PassedNames (S : List ℕ) (n o i at : ℕ) : Type 0 where
   pub within : i ≤ n
   pub here : at ≡ name-start S i
-  pub so-far : first-refusal (tab i (name-refusal S o)) ≡ none
+  pub so-far : judged (tab i (name-refusal S o)) ≡ none
 
 pub passed-none : (S : List ℕ) (n o : ℕ) → PassedNames S n o 0 0
-unfolding tab first-refusal name-start
+unfolding tab judged name-start
 passed-none S n o = record { within = omega arith; here = refl; so-far = refl }
 
 module _ {S : List ℕ} {n o i at : ℕ} (p : PassedNames S n o i at) where

@@ -12,7 +12,7 @@ use Rattle.base.proofs.Lists.{none-not-some}
 use Rattle.limits.specs.Limits.{most-leaves, IsLeafCount}
 use Rattle.refusals.specs.declared.Refusal.{Refusal}
 use Rattle.refusals.specs.declared.Refusal.the-variants.{LeafCount as Count, OutputRoom, SheetEnds, SheetLength}
-use Rattle.refusals.specs.Refusals.{first-refusal}
+use Rattle.refusals.specs.Refusals.{judged}
 use Rattle.refusals.proofs.Answers.{judged-alone, judged-none}
 use Rattle.listings.specs.Sizes.{count-refusal, room-refusal}
 use Rattle.listings.proofs.ListingRefusal.{is-leaf-count}
@@ -27,27 +27,27 @@ test-passed false r h = absurd (none-not-some (some r) r refl h)
 
 module _ (S : List ℕ) (n o due room : ℕ) where
   pub ends-refused : right-ends S ≡ false → kept-sheet-refusal S n o due room ≡ some SheetEnds
-  unfolding kept-sheet-refusal first-refusal sheet-ends-refusal
+  unfolding kept-sheet-refusal judged sheet-ends-refusal
   ends-refused h = rw h
 
   module _ (ends : right-ends S ≡ true) where
     pub count-refused : (leb 3 n && leb n most-leaves) ≡ false → kept-sheet-refusal S n o due room ≡ some Count
-    unfolding kept-sheet-refusal first-refusal sheet-ends-refusal count-refusal
+    unfolding kept-sheet-refusal judged sheet-ends-refusal count-refusal
     count-refused h = rw (ends, h)
 
     module _ (count : (leb 3 n && leb n most-leaves) ≡ true) where
       pub sum-refused : right-sum S n o ≡ false → kept-sheet-refusal S n o due room ≡ some SheetLength
-      unfolding kept-sheet-refusal first-refusal sheet-ends-refusal count-refusal sheet-length-refusal
+      unfolding kept-sheet-refusal judged sheet-ends-refusal count-refusal sheet-length-refusal
       sum-refused h = rw (ends, count, h)
 
       module _ (sum : right-sum S n o ≡ true) where
         pub room-refused : room < due → kept-sheet-refusal S n o due room ≡ some OutputRoom
-        unfolding kept-sheet-refusal first-refusal sheet-ends-refusal count-refusal sheet-length-refusal room-refusal
+        unfolding kept-sheet-refusal judged sheet-ends-refusal count-refusal sheet-length-refusal room-refusal
         room-refused h = rw (ends, count, sum, lt-leb due room h)
 
         -- the sizes are right: the names decide
         pub names-left : due ≤ room → kept-sheet-refusal S n o due room ≡ names-refusal S n o
-        unfolding kept-sheet-refusal first-refusal sheet-ends-refusal count-refusal sheet-length-refusal room-refusal
+        unfolding kept-sheet-refusal judged sheet-ends-refusal count-refusal sheet-length-refusal room-refusal
         names-left h = rw (ends, count, sum, le-leb due room h) (judged-alone (names-refusal S n o))
 
   -- what is not refused

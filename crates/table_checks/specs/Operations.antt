@@ -4,11 +4,11 @@ use mathlib.Core.Option.{Option}
 use Prim.Native.Nat.{ℕ, _*_}
 use lib.ListN.{length}
 use Rattle.refusals.specs.declared.Refusal.{Refusal}
-use Rattle.refusals.specs.Refusals.{first-refusal}
+use Rattle.refusals.specs.Refusals.{judged}
 use Rattle.trees.specs.Tables.{cells-refusal}
 use Rattle.listings.specs.Sizes.{count-refusal, length-refusal, room-refusal}
 
 -- a table of n leaves, and room for a result of so many numbers: 1, 2, 3, 4, 5
 unfoldable pub table-refusal : (n : ℕ) (t : List ℕ) (due room : ℕ) → Option Refusal
 table-refusal n t due room =
-    first-refusal (count-refusal n ∷ length-refusal (n * n) (length t) ∷ room-refusal due room ∷ cells-refusal n t ∷ [])
+    judged (count-refusal n ∷ length-refusal (n * n) (length t) ∷ room-refusal due room ∷ cells-refusal n t ∷ [])

@@ -16,7 +16,7 @@ use Rattle.trees.proofs.Trees.{leaves-node, leaf-has, leaf-eq, size-node, apart
 use Rattle.trees.proofs.Trees.{within-left, within-right}
 use Rattle.trees.proofs.BranchedPairs.{inner-sum, inner-sum-leaf, inner-sum-left, inner-sum-right}
 use Rattle.trees.proofs.PathSums.{path-sum, path-sum-left, path-sum-right, path-sum-cross}
-use Rattle.tree_tables.specs.Orders.{most-sum, whole, depth, Laid, at, Shallowest}
+use Rattle.tree_tables.specs.Orders.{most-sum, whole, depth, LaidOut, at, LeastBetween}
 
 -- the size of a leaf
 pub leaf-size : (k : ℕ) → size (leaf k) ≡ 1
@@ -26,7 +26,7 @@ leaf-size k = refl
 module _ (n : ℕ) (place above before : ℕ → ℕ) where
   -- the leaves of a subtree stand at its places
   pub place-in :
-      (Z : Tree) (p u w : ℕ) → Laid n place above before Z p u w → (k : ℕ) → leaves Z k ≡ true
+      (Z : Tree) (p u w : ℕ) → LaidOut n place above before Z p u w → (k : ℕ) → leaves Z k ≡ true
       → (p ≤ place k) × (place k < p + size Z)
   place-in (leaf x) p u w h k t = rw (leaf-eq k x t, leaf-size x) (omega (arith, h .0), omega (arith, h .0))
   place-in (node A B) p u w h k t = rw size-node (elim (or-cases (leaves A k) (leaves B k) (rw leaves-node at t)) [
@@ -40,7 +40,7 @@ module _ (n : ℕ) (place above before : ℕ → ℕ) where
 
   -- and at each of its places stands one
   pub leaf-at :
-      (Z : Tree) (p u w : ℕ) → Laid n place above before Z p u w → (t : ℕ) → p ≤ t → t < p + size Z
+      (Z : Tree) (p u w : ℕ) → LaidOut n place above before Z p u w → (t : ℕ) → p ≤ t → t < p + size Z
       → (k : ℕ) × (leaves Z k ≡ true) × (place k ≡ t)
   leaf-at (leaf x) p u w h t lo hi = (x, leaf-has x, omega (arith, h .0, leaf-size x))
   leaf-at (node A B) p u w h t lo hi = elim (decLt t (p + size A)) [
@@ -56,7 +56,7 @@ module _ (n : ℕ) (place above before : ℕ → ℕ) where
 
   -- two leaves stand at two places
   pub place-once :
-      (Z : Tree) (p u w : ℕ) → Laid n place above before Z p u w → (j k : ℕ) → leaves Z j ≡ true → leaves Z k ≡ true
+      (Z : Tree) (p u w : ℕ) → LaidOut n place above before Z p u w → (j k : ℕ) → leaves Z j ≡ true → leaves Z k ≡ true
       → place j ≡ place k → j ≡ k
   place-once (leaf x) p u w h j k tj tk e = leaf-eq j x tj ∙ sym (leaf-eq k x tk)
   place-once (node A B) p u w h j k tj tk e =
@@ -79,7 +79,7 @@ module _ (n : ℕ) (place above before : ℕ → ℕ) where
 
   -- what branches off above a leaf
   pub above-in :
-      (Z : Tree) (p u w : ℕ) → Laid n place above before Z p u w → Distinct Z → (k : ℕ) → leaves Z k ≡ true
+      (Z : Tree) (p u w : ℕ) → LaidOut n place above before Z p u w → Distinct Z → (k : ℕ) → leaves Z k ≡ true
       → above k ≡ u + inner-sum Z k
   above-in (leaf x) p u w h d k t = rw (leaf-eq k x t, inner-sum-leaf x x) (omega (arith, h .1))
   above-in (node A B) p u w h d k t = elim (or-cases (leaves A k) (leaves B k) (rw leaves-node at t)) [
@@ -94,7 +94,7 @@ module _ (n : ℕ) (place above before : ℕ → ℕ) where
 -- the depths before the leaves may be given in another way
 pub laid-same :
     (n : ℕ) (place above before before′ : ℕ → ℕ) → ((k : ℕ) → k < n → before′ k ≡ before k) → (Z : Tree) (p u w : ℕ)
-    → Within n Z → Laid n place above before Z p u w → Laid n place above before′ Z p u w
+    → Within n Z → LaidOut n place above before Z p u w → LaidOut n place above before′ Z p u w
 laid-same n place above before before′ e (leaf x) p u w s h = (h .0, h .1, e x (s x (leaf-has x)) ∙ h .2)
 laid-same n place above before before′ e (node A B) p u w s h = (
   laid-same n place above before before′ e A p (u + P (size B)) w (within-left n A B s) (h .0),
@@ -127,7 +127,7 @@ second-ge n A B u l =
 module _ (n : ℕ) (small : P n ≤ most-sum) (place above : ℕ → ℕ) (depths : List ℕ) where
   -- the depths are those before the places
   abbrev Ordered : Tree → ℕ → ℕ → ℕ → Type 0
-  Ordered Z p u w = Laid n place above (λ k. at depths (place k)) Z p u w
+  Ordered Z p u w = LaidOut n place above (λ k. at depths (place k)) Z p u w
 
   -- the depth before the first leaf
   first-depth : (Z : Tree) (p u w : ℕ) → Ordered Z p u w → at depths p ≡ w
@@ -166,7 +166,7 @@ module _ (n : ℕ) (small : P n ≤ most-sum) (place above : ℕ → ℕ) (depth
   -- i stands before j, and the least depth between them tells the sum along the path from i to j
   pub record Meets (Z : Tree) (i j : ℕ) : Type 0 where
     pub in-order : place i < place j
-    pub sum : (m : ℕ) → Shallowest depths (place i) (place j) m → above i + above j + m ≡ path-sum n Z i j + whole
+    pub sum : (m : ℕ) → LeastBetween depths (place i) (place j) m → above i + above j + m ≡ path-sum n Z i j + whole
 
   -- two leaves that meet in a node
   crossing :

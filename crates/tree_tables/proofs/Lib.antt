@@ -1,9 +1,9 @@
 pub mod Children
 pub mod LeafOrders
-pub mod Hanging
+pub mod Placing
 pub mod Planned
 pub mod LeastDepths
 pub mod RowsFilled
 pub mod Signed
-pub mod Judging
+pub mod TableAnswers
 pub mod GapLaws

@@ -19,10 +19,11 @@ use Rattle.trees.proofs.Trees.{size-node, OnLeaves, on-tree, root-within, root-
 use Rattle.trees.proofs.Rules.{on-leaves}
 use Rattle.trees.proofs.Quartets.{cell-limit, quartets-diagonal}
 use Rattle.trees.proofs.PathSums.{path-sum-turn, count-formula}
-use Rattle.tree_tables.specs.Orders.{most-sum, whole, depth, at, Laid, Prepared, Hung, OwnPlaces, Placed, Plan}
-use Rattle.tree_tables.specs.Orders.{LeafOrder, Topped, cell-of, RowFits}
+use Rattle.tree_tables.specs.Orders.{most-sum, whole, depth, at, LaidOut, Prepared, NumbersPlaced, OwnPlaces}
+use Rattle.tree_tables.specs.Orders.{Placed, Plan}
+use Rattle.tree_tables.specs.Orders.{LeafOrder, LeastDepths, count-in, TableRowFits}
 use Rattle.tree_tables.proofs.LeafOrders.{leaf-size, place-in, leaf-at, place-once, laid-same, Meets, meets}
-use Rattle.tree_tables.proofs.Hanging.{pairs-small, laid-under}
+use Rattle.tree_tables.proofs.Placing.{pairs-small, laid-under}
 
 module _ (n : ℕ) (l : List ℕ) (count : IsLeafCount n) (keeps : KeepsRules n l) where
   -- the tree under leaf 0, and with leaf 0 put on
@@ -57,8 +58,8 @@ module _ (n : ℕ) (l : List ℕ) (count : IsLeafCount n) (keeps : KeepsRules n 
 
   -- all leaves follow one another
   module _ {sizes counts places aboves befores : List ℕ} (g : Prepared n l sizes counts)
-      (h : Hung n l places aboves befores n) where
-    laid-whole : Laid n (at places) (at aboves) (at befores) W 0 0 0
+      (h : NumbersPlaced n l places aboves befores n) where
+    laid-whole : LaidOut n (at places) (at aboves) (at befores) W 0 0 0
     laid-whole =
         let r = h .root .1 in
         let under-zero = laid-under g h (2 * n - 2) (2 * n - 3) (omega arith) (omega arith) in
@@ -136,7 +137,7 @@ module _ (n : ℕ) (l : List ℕ) (count : IsLeafCount n) (keeps : KeepsRules n 
 
     -- the counts of row i
     module _ {i base : ℕ} {tops : List ℕ} (li : i < n) (eb : base ≡ at aboves i)
-        (t : Topped n order depths (at places i) (whole - (base + base)) tops) where
+        (t : LeastDepths n order depths (at places i) (whole - (base + base)) tops) where
       pub row-counts : (j : ℕ) → j < n → base + at aboves j + at tops j ≡ quartets n T i j + whole
       row-counts j lj = elim (ℕ-discrete i j) [
         | yes e ↦
@@ -167,10 +168,10 @@ module _ (n : ℕ) (l : List ℕ) (count : IsLeafCount n) (keeps : KeepsRules n 
               (above-small j lj)
 
       -- a cell of the row, by its place in the table
-      pub cell-is : (j : ℕ) → j < n → quartets n T ((i * n + j) / n) ((i * n + j) % n) ≡ cell-of base aboves tops j
+      pub cell-is : (j : ℕ) → j < n → quartets n T ((i * n + j) / n) ((i * n + j) % n) ≡ count-in base aboves tops j
       cell-is j lj = rw (row-of n i j lj, column-of n i j lj) (omega (arith, row-counts j lj))
 
-      pub row-fits : (room : ℕ) → n * n ≤ room → RowFits n i base aboves tops room
+      pub row-fits : (room : ℕ) → n * n ≤ room → TableRowFits n i base aboves tops room
       row-fits room enough = record {
         few = count .1;
         row = li;

@@ -7,7 +7,7 @@ use lib.IntN.{ℤ, pos, _-ℤ_}
 use lib.ListN.{length, getD}
 use Rattle.base.specs.Lists.{tab}
 use Rattle.refusals.specs.declared.Refusal.{Refusal}
-use Rattle.refusals.specs.Refusals.{Answer, first-refusal, answered}
+use Rattle.refusals.specs.Refusals.{Answer, judged, answered}
 use Rattle.trees.specs.Trees.{Tree}
 use Rattle.trees.specs.Listings.{tree-of}
 use Rattle.trees.specs.Quartets.{quartets}
@@ -26,7 +26,7 @@ gaps n t T = tab (n * n) (λ k. pos (getD t k 0) -ℤ pos (quartets n T (k / n) 
 -- a table and a listing, and room for a gap at each cell: 1, 2, 3, 7, 8, then 4, 5
 unfoldable pub gap-refusal : (n : ℕ) (t l : List ℕ) (room : ℕ) → Option Refusal
 gap-refusal n t l room =
-    first-refusal (count-refusal n ∷ length-refusal (n * n) (length t) ∷ listing-refusal n l (n * n) room
+    judged (count-refusal n ∷ length-refusal (n * n) (length t) ∷ listing-refusal n l (n * n) room
     ∷ cells-refusal n t ∷ [])
 
 -- the gap between a table and the tree that a listing stands for

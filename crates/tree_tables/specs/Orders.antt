@@ -10,6 +10,7 @@ use Rattle.base.specs.Lists.{tab}
 use Rattle.limits.specs.Limits.{most-leaves, IsLeafCount}
 use Rattle.pair_counts.specs.Pairs.{P}
 use Rattle.trees.specs.Trees.{Tree, leaf, node, size}
+use Rattle.listings.specs.Standardising.{row-first, row-second}
 use Rattle.trees.specs.Listings.{KeepsRules, subtree-at}
 
 -- a listing has fewer numbers than this, and no sum of pairs that branch off is larger than that
@@ -18,13 +19,6 @@ most-numbers = 2 * most-leaves
 
 abbrev pub most-sum : ℕ
 most-sum = most-leaves * most-leaves
-
--- the two children of number c
-abbrev pub row-first : ℕ → List ℕ → ℕ → ℕ
-row-first n l c = getD l (2 * (c - n)) 0
-
-abbrev pub row-second : ℕ → List ℕ → ℕ → ℕ
-row-second n l c = getD l (2 * (c - n) + 1) 0
 
 -- the number of leaves under each number of a listing
 abbrev pub Sized : ℕ → List ℕ → List ℕ → Type 0
@@ -50,41 +44,41 @@ abbrev pub most-depth : ℕ
 most-depth = 3 * most-sum
 
 -- a number's place, the pairs that branch off above it, and the depth before its first leaf are p, u and w
-abbrev pub Stands : (place above before : ℕ → ℕ) (c p u w : ℕ) → Type 0
-Stands place above before c p u w = (place c ≡ p) × (above c ≡ u) × (before c ≡ w)
+abbrev pub PlacedAt : (place above before : ℕ → ℕ) (c p u w : ℕ) → Type 0
+PlacedAt place above before c p u w = (place c ≡ p) × (above c ≡ u) × (before c ≡ w)
 
 -- the leaves of a subtree follow one another from place p on
-abbrev pub Laid : (n : ℕ) (place above before : ℕ → ℕ) → Tree → (p u w : ℕ) → Type 0
-Laid n place above before (leaf k) p u w = Stands place above before k p u w
-Laid n place above before (node A B) p u w =
-    Laid n place above before A p (u + P (size B)) w
-    × Laid n place above before B (p + size A) (u + P (size A)) (depth n A B u)
+abbrev pub LaidOut : (n : ℕ) (place above before : ℕ → ℕ) → Tree → (p u w : ℕ) → Type 0
+LaidOut n place above before (leaf k) p u w = PlacedAt place above before k p u w
+LaidOut n place above before (node A B) p u w =
+    LaidOut n place above before A p (u + P (size B)) w
+    × LaidOut n place above before B (p + size A) (u + P (size A)) (depth n A B u)
 
 -- the entries of an array
 abbrev pub at : List ℕ → ℕ → ℕ
 at xs k = getD xs k 0
 
 -- the children of number c stand side by side from c's place on
-abbrev pub HungRow : (n : ℕ) (l places aboves befores : List ℕ) (c : ℕ) → Type 0
-HungRow n l places aboves befores c =
+abbrev pub ChildrenPlaced : (n : ℕ) (l places aboves befores : List ℕ) (c : ℕ) → Type 0
+ChildrenPlaced n l places aboves befores c =
     let A = subtree-at n l (row-first n l c) in
     let B = subtree-at n l (row-second n l c) in
-    Stands (at places) (at aboves) (at befores) (row-first n l c) (at places c) (at aboves c + P (size B))
+    PlacedAt (at places) (at aboves) (at befores) (row-first n l c) (at places c) (at aboves c + P (size B))
     (at befores c)
-    × Stands (at places) (at aboves) (at befores) (row-second n l c) (at places c + size A)
+    × PlacedAt (at places) (at aboves) (at befores) (row-second n l c) (at places c + size A)
     (at aboves c + P (size A)) (depth n A B (at aboves c))
 
 -- the last number and leaf 0 have their places, and so have the children of the numbers from c on
-pub record Hung (n : ℕ) (l places aboves befores : List ℕ) (c : ℕ) : Type 0 where
+pub record NumbersPlaced (n : ℕ) (l places aboves befores : List ℕ) (c : ℕ) : Type 0 where
   pub places-long : length places ≡ most-numbers
   pub aboves-long : length aboves ≡ most-numbers
   pub befores-long : length befores ≡ most-numbers
   pub inside : (d : ℕ) → d < 2 * n - 2 → at places d + size (subtree-at n l d) ≤ n
   pub small : (d : ℕ) → d < 2 * n - 2 → at aboves d + P (size (subtree-at n l d)) ≤ P n
   pub root :
-      Laid n (at places) (at aboves) (at befores) (leaf 0) 0 (0 + P (n - 1)) 0
-      × Stands (at places) (at aboves) (at befores) (2 * n - 3) 1 0 (whole - P (n - 1))
-  pub rows : (d : ℕ) → c ≤ d → d < 2 * n - 2 → HungRow n l places aboves befores d
+      LaidOut n (at places) (at aboves) (at befores) (leaf 0) 0 (0 + P (n - 1)) 0
+      × PlacedAt (at places) (at aboves) (at befores) (2 * n - 3) 1 0 (whole - P (n - 1))
+  pub rows : (d : ℕ) → c ≤ d → d < 2 * n - 2 → ChildrenPlaced n l places aboves befores d
 
 -- every leaf has a place of its own
 pub record OwnPlaces (n : ℕ) (places : List ℕ) : Type 0 where
@@ -99,7 +93,7 @@ Placed places befores order depths m =
 
 -- the order of the leaves of a tree, leaf 0 put on, and the depths between them
 pub record Plan (n : ℕ) (T : Tree) (places aboves order depths : List ℕ) : Type 0 where
-  pub laid : Laid n (at places) (at aboves) (λ k. at depths (at places k)) (node (leaf 0) T) 0 0 0
+  pub laid : LaidOut n (at places) (at aboves) (λ k. at depths (at places k)) (node (leaf 0) T) 0 0 0
   pub placed : (k : ℕ) → k < n → at order (at places k) ≡ k
   pub small : (k : ℕ) → k < n → at aboves k ≤ P n
 
@@ -110,23 +104,23 @@ pub record LeafOrder (n : ℕ) (order : List ℕ) : Type 0 where
   pub once : (s t : ℕ) → s < n → t < n → at order s ≡ at order t → s ≡ t
 
 -- m is the least of the depths between the places lo and hi
-pub record Shallowest (depths : List ℕ) (lo hi m : ℕ) : Type 0 where
+pub record LeastBetween (depths : List ℕ) (lo hi m : ℕ) : Type 0 where
   pub bound : (t : ℕ) → lo < t → t ≤ hi → m ≤ at depths t
   pub greatest : (z : ℕ) → z ≤ most-depth → ((t : ℕ) → lo < t → t ≤ hi → z ≤ at depths t) → z ≤ m
 
 -- the least depth between place p and that of each other leaf; `own` for the leaf at p
-pub record Topped (n : ℕ) (order depths : List ℕ) (p own : ℕ) (tops : List ℕ) : Type 0 where
+pub record LeastDepths (n : ℕ) (order depths : List ℕ) (p own : ℕ) (tops : List ℕ) : Type 0 where
   pub long : length tops ≡ most-leaves
   pub here : at tops (at order p) ≡ own
-  pub after : (s : ℕ) → p < s → s < n → Shallowest depths p s (at tops (at order s))
-  pub before : (s : ℕ) → s < p → Shallowest depths s p (at tops (at order s))
+  pub after : (s : ℕ) → p < s → s < n → LeastBetween depths p s (at tops (at order s))
+  pub before : (s : ℕ) → s < p → LeastBetween depths s p (at tops (at order s))
 
 -- the count of the cell in column j: `base` is what branches off above the row's leaf
-abbrev pub cell-of : (base : ℕ) (aboves tops : List ℕ) → ℕ → ℕ
-cell-of base aboves tops j = base + at aboves j + at tops j - whole
+abbrev pub count-in : (base : ℕ) (aboves tops : List ℕ) → ℕ → ℕ
+count-in base aboves tops j = base + at aboves j + at tops j - whole
 
 -- row i can be written
-pub record RowFits (n i base : ℕ) (aboves tops : List ℕ) (room : ℕ) : Type 0 where
+pub record TableRowFits (n i base : ℕ) (aboves tops : List ℕ) (room : ℕ) : Type 0 where
   pub few : n ≤ most-leaves
   pub row : i < n
   pub enough : n * n ≤ room

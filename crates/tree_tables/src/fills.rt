@@ -14,7 +14,8 @@ ghost use Rattle.limits.specs.Limits.{most-leaves, IsLeafCount};
 ghost use Rattle.trees.specs.Listings.{KeepsRules, tree-of};
 ghost use Rattle.trees.specs.Tables.{table-of};
 ghost use Rattle.tree_tables.specs.Operations.{gaps};
-ghost use Rattle.tree_tables.specs.Orders.{most-sum, whole, most-depth, LeafOrder, Topped, cell-of, RowFits};
+ghost use Rattle.tree_tables.specs.Orders.{most-sum, whole, most-depth, LeafOrder, LeastDepths, count-in};
+ghost use Rattle.tree_tables.specs.Orders.{TableRowFits};
 
 // What the counts of row i are found from: the least depth between leaf i and each leaf, and what branches off above
 // leaf i.
@@ -30,7 +31,7 @@ fn find_row(
     requires { ⌜ LeafOrder n (now order) × (i < n) × (getD (now places) i 0 < n) × (getD (now aboves) i 0 ≤ most-sum)
         × (length (now tops) ≡ most-leaves) ⌝ }
     ensures { λ r. ⌜ (r ≡ getD (now (aboves .entry)) i 0)
-        × Topped n (now (order .entry)) (now (depths .entry)) (getD (now (places .entry)) i 0) (whole - (r + r))
+        × LeastDepths n (now (order .entry)) (now (depths .entry)) (getD (now (places .entry)) i 0) (whole - (r + r))
         (now (tops .exit)) ⌝ }
 {
     let above = aboves[i];
@@ -42,7 +43,7 @@ fn find_row(
 fn count_at(base: u32, aboves: &[u32; NUMBERS], tops: &[u32; LEAVES], j: usize) -> u32
     requires { ⌜ (j < most-leaves) × (whole ≤ base + getD (now aboves) j 0 + getD (now tops) j 0)
         × (base + getD (now aboves) j 0 + getD (now tops) j 0 ≤ most-depth) ⌝ }
-    ensures { λ r. ⌜ r ≡ cell-of base (now (aboves .entry)) (now (tops .entry)) j ⌝ }
+    ensures { λ r. ⌜ r ≡ count-in base (now (aboves .entry)) (now (tops .entry)) j ⌝ }
 {
     base + aboves[j] + tops[j] - WHOLE
 }
@@ -56,9 +57,9 @@ fn write_row(
     tops: &[u32; LEAVES],
     out: &mut [u32],
 )
-    requires { ⌜ RowFits n i base (now aboves) (now tops) (length (now out)) ⌝ }
+    requires { ⌜ TableRowFits n i base (now aboves) (now tops) (length (now out)) ⌝ }
     ensures { λ _. ⌜ ((f : ℕ → ℕ) (l : List ℕ)
-        → ((j : ℕ) → j < n → f (i * n + j) ≡ cell-of base (now (aboves .entry)) (now (tops .entry)) j)
+        → ((j : ℕ) → j < n → f (i * n + j) ≡ count-in base (now (aboves .entry)) (now (tops .entry)) j)
         → now (out .entry) ≡ filled (i * n) f l → now (out .exit) ≡ filled (i * n + n) f l) ⌝ }
 {
     let mut j: usize = 0;
@@ -85,11 +86,11 @@ fn subtract_row(
     cells: &[u32],
     out: &mut [i64],
 )
-    requires { ⌜ RowFits n i base (now aboves) (now tops) (length (now out)) × (length (now cells) ≡ n * n) ⌝ }
+    requires { ⌜ TableRowFits n i base (now aboves) (now tops) (length (now out)) × (length (now cells) ≡ n * n) ⌝ }
     ensures { λ _. ⌜ ((f : ℕ → ℤ) (l : List ℤ)
         → ((j : ℕ) → j < n → f (i * n + j)
         ≡ pos (getD (now (cells .entry)) (i * n + j) 0)
-        -ℤ pos (cell-of base (now (aboves .entry)) (now (tops .entry)) j))
+        -ℤ pos (count-in base (now (aboves .entry)) (now (tops .entry)) j))
         → now (out .entry) ≡ filled (i * n) f l → now (out .exit) ≡ filled (i * n + n) f l) ⌝ }
 {
     let mut j: usize = 0;

@@ -8,7 +8,8 @@ ghost use Rattle.base.specs.Lists.{tab};
 ghost use Rattle.limits.specs.Limits.{most-leaves, IsLeafCount};
 ghost use Rattle.pair_counts.specs.Pairs.{P};
 ghost use Rattle.trees.specs.Listings.{KeepsRules, tree-of};
-ghost use Rattle.tree_tables.specs.Orders.{most-numbers, most-sum, Sized, Prepared, Hung, OwnPlaces, Placed};
+ghost use Rattle.tree_tables.specs.Orders.{most-numbers, most-sum, Sized, Prepared, NumbersPlaced, OwnPlaces};
+ghost use Rattle.tree_tables.specs.Orders.{Placed};
 ghost use Rattle.tree_tables.specs.Orders.{Plan};
 
 // The most leaves, and the most numbers of a listing.
@@ -53,7 +54,7 @@ fn with_pairs(counts: &[u32; COUNTS], sum: u32, k: usize) -> u32
 }
 
 // Number c takes its place, the sum of what branches off above it, and the depth before its first leaf.
-fn place_leaf(
+fn place_number(
     c: usize,
     place: usize,
     above: u32,
@@ -74,7 +75,7 @@ fn place_leaf(
 }
 
 // The two children of number c take their places, side by side, from where c's is.
-fn hang_row(
+fn place_children(
     n: usize,
     listing: &[u16],
     sizes: &[usize; NUMBERS],
@@ -85,8 +86,9 @@ fn hang_row(
     befores: &mut [u32; NUMBERS],
 )
     requires { ⌜ Prepared n (now listing) (now sizes) (now counts) × (n ≤ c) × (c < 2 * n - 2)
-        × Hung n (now listing) (now places) (now aboves) (now befores) (c + 1) ⌝ }
-    ensures { λ _. ⌜ Hung n (now (listing .entry)) (now (places .exit)) (now (aboves .exit)) (now (befores .exit)) c ⌝ }
+        × NumbersPlaced n (now listing) (now places) (now aboves) (now befores) (c + 1) ⌝ }
+    ensures { λ _. ⌜ NumbersPlaced n (now (listing .entry)) (now (places .exit)) (now (aboves .exit))
+        (now (befores .exit)) c ⌝ }
 {
     let k = 2 * (c - n);
     let a = child(listing, k);
@@ -100,12 +102,12 @@ fn hang_row(
     let above_b = with_pairs(counts, above, x);
     let rest = with_pairs(counts, 0, n - (x + y));
     let depth = rest + (WHOLE - (above_a + above_b));
-    place_leaf(a, p, above_a, before, places, aboves, befores);
-    place_leaf(b, p + x, above_b, depth, places, aboves, befores);
+    place_number(a, p, above_a, before, places, aboves, befores);
+    place_number(b, p + x, above_b, depth, places, aboves, befores);
 }
 
 // Every number takes its place, from the last row down.
-fn hang(
+fn place_numbers(
     n: usize,
     listing: &[u16],
     sizes: &[usize; NUMBERS],
@@ -115,18 +117,19 @@ fn hang(
     befores: &mut [u32; NUMBERS],
 )
     requires { ⌜ Prepared n (now listing) (now sizes) (now counts)
-        × Hung n (now listing) (now places) (now aboves) (now befores) (2 * n - 2) ⌝ }
-    ensures { λ _. ⌜ Hung n (now (listing .entry)) (now (places .exit)) (now (aboves .exit)) (now (befores .exit)) n ⌝ }
+        × NumbersPlaced n (now listing) (now places) (now aboves) (now befores) (2 * n - 2) ⌝ }
+    ensures { λ _. ⌜ NumbersPlaced n (now (listing .entry)) (now (places .exit)) (now (aboves .exit))
+        (now (befores .exit)) n ⌝ }
 {
     let mut c: usize = 2 * n - 2;
     while c > n {
         c -= 1;
-        hang_row(n, listing, sizes, counts, c, places, aboves, befores);
+        place_children(n, listing, sizes, counts, c, places, aboves, befores);
     }
 }
 
 // The leaf at each place, and the depth before it.
-fn lay(
+fn order_leaves(
     n: usize,
     places: &[usize; NUMBERS],
     befores: &[u32; NUMBERS],
@@ -145,7 +148,7 @@ fn lay(
     }
 }
 
-// The order of the leaves and the depths, from arrays that hold zeros. Leaf 0 hangs above all others, at place 0.
+// The order of the leaves and the depths, from arrays that hold zeros. Leaf 0 stands above all others, at place 0.
 pub(crate) fn plan(
     n: usize,
     listing: &[u16],
@@ -165,7 +168,7 @@ pub(crate) fn plan(
     let mut befores: [u32; NUMBERS] = [0; NUMBERS];
     count_leaves(n, listing, &mut sizes);
     let others = with_pairs(&counts, 0, n - 1);
-    place_leaf(
+    place_number(
         2 * n - 3,
         1,
         0,
@@ -174,7 +177,7 @@ pub(crate) fn plan(
         aboves,
         &mut befores,
     );
-    place_leaf(0, 0, others, 0, places, aboves, &mut befores);
-    hang(n, listing, &sizes, &counts, places, aboves, &mut befores);
-    lay(n, places, &befores, order, depths);
+    place_number(0, 0, others, 0, places, aboves, &mut befores);
+    place_numbers(n, listing, &sizes, &counts, places, aboves, &mut befores);
+    order_leaves(n, places, &befores, order, depths);
 }

@@ -5,7 +5,7 @@ ghost use mathlib.Core.Path.{_≡_};
 ghost use Prim.Native.Nat.{ℕ, _<_, _≤_};
 ghost use lib.ListN.{length, getD, set};
 ghost use Rattle.limits.specs.Limits.{most-leaves};
-ghost use Rattle.tree_tables.specs.Orders.{LeafOrder, Shallowest, Topped};
+ghost use Rattle.tree_tables.specs.Orders.{LeafOrder, LeastBetween, LeastDepths};
 
 // No depth is larger.
 const MOST_DEPTH: u32 = (3 * LEAVES * LEAVES) as u32;
@@ -52,7 +52,7 @@ fn rightwards(
     requires { ⌜ LeafOrder n (now order) × (p < n) × (length (now tops) ≡ most-leaves) ⌝ }
     ensures { λ _. ⌜ (length (now (tops .exit)) ≡ most-leaves)
         × ((s : ℕ) → p < s → s < n
-        → Shallowest (now (depths .entry)) p s (getD (now (tops .exit)) (getD (now (order .entry)) s 0) 0)) ⌝ }
+        → LeastBetween (now (depths .entry)) p s (getD (now (tops .exit)) (getD (now (order .entry)) s 0) 0)) ⌝ }
 {
     let mut low: u32 = MOST_DEPTH;
     let mut t: usize = p + 1;
@@ -73,7 +73,7 @@ fn leftwards(
     requires { ⌜ LeafOrder n (now order) × (p < n) × (length (now tops) ≡ most-leaves) ⌝ }
     ensures { λ _. ⌜ (length (now (tops .exit)) ≡ most-leaves)
         × ((s : ℕ) → s < p
-        → Shallowest (now (depths .entry)) s p (getD (now (tops .exit)) (getD (now (order .entry)) s 0) 0))
+        → LeastBetween (now (depths .entry)) s p (getD (now (tops .exit)) (getD (now (order .entry)) s 0) 0))
         × ((s : ℕ) → p < s → s < n
         → getD (now (tops .exit)) (getD (now (order .entry)) s 0) 0
         ≡ getD (now (tops .entry)) (getD (now (order .entry)) s 0) 0) ⌝ }
@@ -96,7 +96,7 @@ pub(crate) fn find_tops(
     tops: &mut [u32; LEAVES],
 )
     requires { ⌜ LeafOrder n (now order) × (p < n) × (length (now tops) ≡ most-leaves) ⌝ }
-    ensures { λ _. ⌜ Topped n (now (order .entry)) (now (depths .entry)) p own (now (tops .exit)) ⌝ }
+    ensures { λ _. ⌜ LeastDepths n (now (order .entry)) (now (depths .entry)) p own (now (tops .exit)) ⌝ }
 {
     rightwards(n, order, depths, p, tops);
     leftwards(n, order, depths, p, tops);

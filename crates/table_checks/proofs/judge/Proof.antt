@@ -4,7 +4,7 @@ use native.Mathlib.Omega.{arith}
 use borrow.Author.Needs.{needs}
 use borrow.Author.Tests.{lt-leb, le-leb, eq-eqb, ne-eqb}
 use Rattle.limits.proofs.TablePlaces.{square-small}
-use Rattle.refusals.specs.Refusals.{first-refusal, outcome-of}
+use Rattle.refusals.specs.Refusals.{judged, outcome-of}
 use Rattle.listings.specs.Sizes.{count-refusal, length-refusal, room-refusal}
 use Rattle.table_checks.specs.Operations.{table-refusal}
 use Rattle.table_checks.proofs.TableRefusal.{cells-left}
@@ -12,23 +12,23 @@ use Rattle.table_checks.proofs.judge.Statement.{statement}
 use Rattle.table_checks.proofs.judge.Tie as tie
 
 returns : tie.Need-returns
-unfolding table-refusal first-refusal outcome-of count-refusal
+unfolding table-refusal judged outcome-of count-refusal
 returns c = simp (lt-leb _ _ (c .if1 .taken))
 
 returns-2 : tie.Need-returns-2
-unfolding table-refusal first-refusal outcome-of count-refusal
+unfolding table-refusal judged outcome-of count-refusal
 returns-2 c = simp (le-leb _ _ (c .before .if1 .left), lt-leb _ _ (c .if2 .taken))
 
 mul-if3 : tie.Need-mul-if3
 mul-if3 c = omega (arith, square-small (c .before .before .before .args .n) (omega arith))
 
 returns-3 : tie.Need-returns-3
-unfolding table-refusal first-refusal outcome-of count-refusal length-refusal
+unfolding table-refusal judged outcome-of count-refusal length-refusal
 returns-3 c =
     simp (le-leb _ _ (c .before .before .if1 .left), le-leb _ _ (c .before .if2 .left), ne-eqb _ _ (c .if3 .taken))
 
 returns-4 : tie.Need-returns-4
-unfolding table-refusal first-refusal outcome-of count-refusal length-refusal room-refusal
+unfolding table-refusal judged outcome-of count-refusal length-refusal room-refusal
 returns-4 c =
     simp (
       le-leb _ _ (c .before .before .before .if1 .left),

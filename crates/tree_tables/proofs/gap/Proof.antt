@@ -14,8 +14,8 @@ use Rattle.refusals.proofs.Answers.{outcome-answered, done-none, refused-some, 
 use Rattle.listings.specs.Operations.{listing-refusal}
 use Rattle.listings.proofs.ListingRefusal.{is-leaf-count, accepted-listing}
 use Rattle.tree_tables.specs.Operations.{gap-answer}
-use Rattle.tree_tables.proofs.Judging.{count-refused, cells-refused, listing-refused, table-decides}
-use Rattle.tree_tables.proofs.Judging.{gap-written}
+use Rattle.tree_tables.proofs.TableAnswers.{count-refused, cells-refused, listing-refused, table-decides}
+use Rattle.tree_tables.proofs.TableAnswers.{gap-written}
 use Rattle.tree_tables.proofs.gap.Statement.{statement}
 use Rattle.tree_tables.proofs.gap.Tie as tie
 

@@ -14,7 +14,7 @@ use Rattle.refusals.proofs.Answers.{outcome-answered, done-none, refused-some, 
 use Rattle.listings.specs.Operations.{listing-refusal}
 use Rattle.listings.proofs.ListingRefusal.{is-leaf-count, count-refused, accepted-listing}
 use Rattle.tree_tables.specs.Operations.{table-answer}
-use Rattle.tree_tables.proofs.Judging.{table-written}
+use Rattle.tree_tables.proofs.TableAnswers.{table-written}
 use Rattle.tree_tables.proofs.table.Statement.{statement}
 use Rattle.tree_tables.proofs.table.Tie as tie
 

@@ -11,7 +11,7 @@ use mir.Syntax.{w64}
 use mir.Facts.{toZ-ofZ}
 use Rattle.base.specs.Lists.{filled}
 use Rattle.base.proofs.Lists.{place}
-use Rattle.tree_tables.specs.Orders.{most-sum, cell-of}
+use Rattle.tree_tables.specs.Orders.{most-sum, count-in}
 use Rattle.tree_tables.proofs.RowsFilled.{cell-place, cell-more}
 use Rattle.tree_tables.proofs.fills.subtract_row.Statement.{statement}
 use Rattle.tree_tables.proofs.fills.subtract_row.Tie as tie
@@ -20,7 +20,7 @@ abbrev Inv-loop : tie.InvT-loop
 Inv-loop n i base aboves tops cells out₀ j₀ out j =
     (j ≤ n) × (length out ≡ length out₀)
     × ((f : ℕ → ℤ) (l : List ℤ)
-    → ((k : ℕ) → k < n → f (i * n + k) ≡ pos (getD cells (i * n + k) 0) -ℤ pos (cell-of base aboves tops k))
+    → ((k : ℕ) → k < n → f (i * n + k) ≡ pos (getD cells (i * n + k) 0) -ℤ pos (count-in base aboves tops k))
     → out₀ ≡ filled (i * n) f l → out ≡ filled (i * n + j) f l)
 
 abbrev μ-loop : tie.MeasureT-loop

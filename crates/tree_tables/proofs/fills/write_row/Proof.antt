@@ -7,7 +7,7 @@ use native.Mathlib.Omega.{arith}
 use borrow.Author.Needs.{needs}
 use lib.ListN.{length, length-set}
 use Rattle.base.specs.Lists.{filled}
-use Rattle.tree_tables.specs.Orders.{most-sum, cell-of}
+use Rattle.tree_tables.specs.Orders.{most-sum, count-in}
 use Rattle.tree_tables.proofs.RowsFilled.{cell-place, cell-more}
 use Rattle.tree_tables.proofs.fills.write_row.Statement.{statement}
 use Rattle.tree_tables.proofs.fills.write_row.Tie as tie
@@ -15,7 +15,7 @@ use Rattle.tree_tables.proofs.fills.write_row.Tie as tie
 abbrev Inv-loop : tie.InvT-loop
 Inv-loop n i base aboves tops out₀ j₀ out j =
     (j ≤ n) × (length out ≡ length out₀)
-    × ((f : ℕ → ℕ) (l : List ℕ) → ((k : ℕ) → k < n → f (i * n + k) ≡ cell-of base aboves tops k)
+    × ((f : ℕ → ℕ) (l : List ℕ) → ((k : ℕ) → k < n → f (i * n + k) ≡ count-in base aboves tops k)
     → out₀ ≡ filled (i * n) f l → out ≡ filled (i * n + j) f l)
 
 abbrev μ-loop : tie.MeasureT-loop

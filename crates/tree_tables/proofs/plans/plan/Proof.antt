@@ -7,7 +7,7 @@ use borrow.Author.Needs.{needs}
 use lib.ListN.{length, length-set, getD-replicate}
 use Rattle.pair_counts.specs.Pairs.{P}
 use Rattle.tree_tables.specs.Orders.{most-numbers, Prepared}
-use Rattle.tree_tables.proofs.Hanging.{pairs-small, hung-start}
+use Rattle.tree_tables.proofs.Placing.{pairs-small, placing-starts}
 use Rattle.tree_tables.proofs.Planned.{under-others, own-places, plan-made}
 use Rattle.tree_tables.proofs.plans.plan.Statement.{statement}
 use Rattle.tree_tables.proofs.plans.plan.Tie as tie
@@ -57,15 +57,15 @@ sub-place-leaf-2 c =
     let s = c .before .before .before .before .before .before in
     omega (arith, others c, pairs-small (s .args .n - 1) (omega (arith, s .pre .0 .1)))
 
-place-leaf-requires : tie.Need-place-leaf-requires
-place-leaf-requires c κs =
+place-number-requires : tie.Need-place-number-requires
+place-number-requires c κs =
     let s = c .before .before .before .before .before .before .before .before .before in
     (omega (arith, s .pre .0), ap length (s .pre .2), ap length (s .pre .3), refl)
 
-place-leaf-requires-2 : tie.Need-place-leaf-requires-2
-place-leaf-requires-2 c κs =
+place-number-requires-2 : tie.Need-place-number-requires-2
+place-number-requires-2 c κs =
     let b = c .before .before .before in
-    let e = b .place-leaf .ensures in
+    let e = b .place-number .ensures in
     let s = b .before .before .before .before .before .before .before .before .before .before in (
       omega arith,
       rw (e .0, length-set) (ap length (s .pre .2)),
@@ -73,24 +73,24 @@ place-leaf-requires-2 c κs =
       rw (e .2, length-set) refl,
     )
 
-hang-requires : tie.Need-hang-requires
-hang-requires c κs =
+place-numbers-requires : tie.Need-place-numbers-requires
+place-numbers-requires c κs =
     let b = c .before .before .before .before .before .before .before .before .before in
-    let d = c .before .before .before .before .before .place-leaf2 .ensures in
-    let e = b .place-leaf .ensures in
+    let d = c .before .before .before .before .before .place-number2 .ensures in
+    let e = b .place-number .ensures in
     let made = b .before .before .before .before in
     let p = made .before .before .before .before .before .before .pre in (
       prepared (made .before .before),
       rw (d .0, d .1, d .2, e .0, e .1, e .2, p .2, p .3)
-          (hung-start _ _ (p .0) (p .1) _ (others made) (under-others _ _ (p .0) (p .1))),
+          (placing-starts _ _ (p .0) (p .1) _ (others made) (under-others _ _ (p .0) (p .1))),
     )
 
-lay-requires : tie.Need-lay-requires
-lay-requires c κs =
+order-leaves-requires : tie.Need-order-leaves-requires
+order-leaves-requires c κs =
     let b = c .before .before .before .before .before .before .before .before .before .before in
     let counted = b .before .before .before .before .before .before .before .before .before .before in
     let p = counted .before .before .before .before .pre in (
-      own-places _ _ (p .0) (p .1) (prepared counted) (c .before .before .before .before .hang .ensures),
+      own-places _ _ (p .0) (p .1) (prepared counted) (c .before .before .before .before .place-numbers .ensures),
       ap length (p .4),
       ap length (p .5),
     )
@@ -100,8 +100,8 @@ returns c =
     let b = c .before .before .before .before .before .before .before .before .before .before in
     let counted = b .before .before .before .before .before .before .before .before .before .before .before in
     let p = counted .before .before .before .before .pre in
-    let hung = c .before .before .before .before .before .hang .ensures in
-    plan-made _ _ (p .0) (p .1) (prepared counted) hung (c .lay .ensures)
+    let so-far = c .before .before .before .before .before .place-numbers .ensures in
+    plan-made _ _ (p .0) (p .1) (prepared counted) so-far (c .order-leaves .ensures)
 
 pub plan-spec : {M : Type 1} → statement M
 plan-spec =
@@ -114,8 +114,8 @@ plan-spec =
     mul-place-leaf
     sub-place-leaf
     sub-place-leaf-2
-    place-leaf-requires
-    place-leaf-requires-2
-    hang-requires
-    lay-requires
+    place-number-requires
+    place-number-requires-2
+    place-numbers-requires
+    order-leaves-requires
     returns)

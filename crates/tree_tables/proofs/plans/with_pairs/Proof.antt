@@ -7,7 +7,7 @@ use lib.ListN.{getD}
 use Rattle.base.proofs.Lists.{getD-tab}
 use Rattle.limits.specs.Limits.{most-leaves}
 use Rattle.pair_counts.specs.Pairs.{P}
-use Rattle.tree_tables.proofs.Hanging.{pairs-small}
+use Rattle.tree_tables.proofs.Placing.{pairs-small}
 use Rattle.tree_tables.proofs.plans.with_pairs.Statement.{statement}
 use Rattle.tree_tables.proofs.plans.with_pairs.Tie as tie
 

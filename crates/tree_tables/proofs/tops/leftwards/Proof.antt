@@ -5,15 +5,15 @@ use native.Mathlib.Omega.{arith}
 use borrow.Author.Needs.{needs}
 use lib.ListN.{length}
 use Rattle.limits.specs.Limits.{most-leaves}
-use Rattle.tree_tables.specs.Orders.{at, Shallowest}
+use Rattle.tree_tables.specs.Orders.{at, LeastBetween}
 use Rattle.tree_tables.proofs.LeastDepths.{shallowest-none, before-more}
 use Rattle.tree_tables.proofs.tops.leftwards.Statement.{statement}
 use Rattle.tree_tables.proofs.tops.leftwards.Tie as tie
 
 abbrev Inv-loop : tie.InvT-loop
 Inv-loop n order depths p tops₀ low₀ t₀ tops low t =
-    (t ≤ p) × (length tops ≡ most-leaves) × Shallowest depths t p low
-    × ((s : ℕ) → t ≤ s → s < p → Shallowest depths s p (at tops (at order s)))
+    (t ≤ p) × (length tops ≡ most-leaves) × LeastBetween depths t p low
+    × ((s : ℕ) → t ≤ s → s < p → LeastBetween depths s p (at tops (at order s)))
     × ((s : ℕ) → p < s → s < n → at tops (at order s) ≡ at tops₀ (at order s))
 
 abbrev μ-loop : tie.MeasureT-loop

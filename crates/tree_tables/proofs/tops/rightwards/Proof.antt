@@ -5,15 +5,15 @@ use native.Mathlib.Omega.{arith}
 use borrow.Author.Needs.{needs}
 use lib.ListN.{length}
 use Rattle.limits.specs.Limits.{most-leaves}
-use Rattle.tree_tables.specs.Orders.{at, Shallowest}
+use Rattle.tree_tables.specs.Orders.{at, LeastBetween}
 use Rattle.tree_tables.proofs.LeastDepths.{shallowest-none, after-more}
 use Rattle.tree_tables.proofs.tops.rightwards.Statement.{statement}
 use Rattle.tree_tables.proofs.tops.rightwards.Tie as tie
 
 abbrev Inv-loop : tie.InvT-loop
 Inv-loop n order depths p tops₀ low₀ t₀ tops low t =
-    (p < t) × (t ≤ n) × (length tops ≡ most-leaves) × Shallowest depths p (t - 1) low
-    × ((s : ℕ) → p < s → s < t → Shallowest depths p s (at tops (at order s)))
+    (p < t) × (t ≤ n) × (length tops ≡ most-leaves) × LeastBetween depths p (t - 1) low
+    × ((s : ℕ) → p < s → s < t → LeastBetween depths p s (at tops (at order s)))
 
 abbrev μ-loop : tie.MeasureT-loop
 μ-loop n order depths p tops₀ low₀ t₀ tops low t = n - t

@@ -14,7 +14,7 @@ use Rattle.base.proofs.Lists.{length-tab}
 use Rattle.limits.specs.Limits.{most-leaves, IsLeafCount}
 use Rattle.refusals.specs.declared.Refusal.{Refusal}
 use Rattle.refusals.specs.declared.Refusal.the-variants.{LeafCount as Count, InputLength}
-use Rattle.refusals.specs.Refusals.{first-refusal, written}
+use Rattle.refusals.specs.Refusals.{judged, written}
 use Rattle.refusals.proofs.Answers.{judged-here, judged-on, judged-alone, written-done}
 use Rattle.trees.specs.Listings.{tree-of}
 use Rattle.trees.specs.Tables.{table-of, cells-refusal}
@@ -35,7 +35,7 @@ module _ (n : ℕ) (t l : List ℕ) (room : ℕ) where
     cells-refused h = count-passes _ n c ∙ length-stops _ (n * n) (length t) h
 
     module _ (e : length t ≡ n * n) where
-      sizes-pass : gap-refusal n t l room ≡ first-refusal (listing-refusal n l (n * n) room ∷ cells-refusal n t ∷ [])
+      sizes-pass : gap-refusal n t l room ≡ judged (listing-refusal n l (n * n) room ∷ cells-refusal n t ∷ [])
       unfolding gap-refusal
       sizes-pass = count-passes _ n c ∙ length-passes _ (n * n) (length t) e
 

@@ -1,4 +1,4 @@
--- `counts::plans::lay` meets its contract: the leaves below j stand at their places, which no other leaf has.
+-- `counts::plans::order_leaves` meets its contract: the leaves below j stand at their places, which no other leaf has.
 use mathlib.Core.Path.{_≡_, _∙_}
 use mathlib.Core.List.{List}
 use Prim.Native.Nat.{ℕ, _-_, _≤_, _<_}
@@ -8,8 +8,8 @@ use lib.ListN.{length, length-set}
 use Rattle.limits.specs.Limits.{most-leaves}
 use Rattle.tree_tables.specs.Orders.{at, OwnPlaces, Placed}
 use Rattle.tree_tables.proofs.Planned.{placed-more}
-use Rattle.tree_tables.proofs.plans.lay.Statement.{statement}
-use Rattle.tree_tables.proofs.plans.lay.Tie as tie
+use Rattle.tree_tables.proofs.plans.order_leaves.Statement.{statement}
+use Rattle.tree_tables.proofs.plans.order_leaves.Tie as tie
 
 abbrev Inv-loop : tie.InvT-loop
 Inv-loop n places befores order₀ depths₀ j₀ order depths j =
@@ -73,8 +73,8 @@ loop-again c =
 returns : tie.Need-returns Inv-loop μ-loop
 returns c = λ k h. c .before .loop .inv .3 k (omega arith)
 
-pub lay-spec : {M : Type 1} → statement M
-lay-spec =
+pub order-leaves-spec : {M : Type 1} → statement M
+order-leaves-spec =
     tie.close
     (tie.spec
     Inv-loop

@@ -1,13 +1,13 @@
--- `counts::plans::hang_row` meets its contract: what the two children are given is what the row asks.
+-- `counts::plans::place_children` meets its contract: what the two children are given is what the row asks.
 use Prim.Native.Nat.{_+_, _≤_}
 use native.Mathlib.Omega.{arith}
 use borrow.Author.Needs.{needs}
 use lib.ListN.{length-set}
 use Rattle.tree_tables.specs.Orders.{most-sum, whole}
-use Rattle.tree_tables.proofs.Hanging.{Next, first-below, second-below, few, in-place, above-small, sums-small}
-use Rattle.tree_tables.proofs.Hanging.{rest-small, hung-row}
-use Rattle.tree_tables.proofs.plans.hang_row.Statement.{statement}
-use Rattle.tree_tables.proofs.plans.hang_row.Tie as tie
+use Rattle.tree_tables.proofs.Placing.{Next, first-below, second-below, few, in-place, above-small, sums-small}
+use Rattle.tree_tables.proofs.Placing.{rest-small, children-placed}
+use Rattle.tree_tables.proofs.plans.place_children.Statement.{statement}
+use Rattle.tree_tables.proofs.plans.place_children.Tie as tie
 
 -- the children are read
 next :
@@ -21,7 +21,7 @@ next c =
       asked = p .0;
       low = p .1;
       high = p .2;
-      hung = p .3;
+      so-far = p .3;
       first = c .before .child .ensures;
       second = c .child2 .ensures;
     }
@@ -112,38 +112,39 @@ sub-depth c = sums c .0
 add-depth-2 : tie.Need-add-depth-2
 add-depth-2 c = omega (arith, sums c)
 
-place-leaf-requires : tie.Need-place-leaf-requires
-place-leaf-requires c κs =
+place-number-requires : tie.Need-place-number-requires
+place-number-requires c κs =
     let f = next (c .before .before .before .before .before .before .before .before .before .before .before) in
-    (omega (arith, first-below f, few f), f .hung .places-long, f .hung .aboves-long, f .hung .befores-long)
+    (omega (arith, first-below f, few f), f .so-far .places-long, f .so-far .aboves-long, f .so-far .befores-long)
 
 add-place-leaf : tie.Need-add-place-leaf
 add-place-leaf c =
     let f = next (c .before .before .before .before .before .before .before .before .before .before .before .before) in
     omega (arith, in-place f, f .asked .leaf-count .1)
 
-place-leaf-requires-2 : tie.Need-place-leaf-requires-2
-place-leaf-requires-2 c κs =
+place-number-requires-2 : tie.Need-place-number-requires-2
+place-number-requires-2 c κs =
     let b = c .before .before .before in
     let f = next (b .before .before .before .before .before .before .before .before .before .before .before .before) in
-    let s = b .place-leaf .ensures in (
+    let s = b .place-number .ensures in (
       omega (arith, second-below f, few f),
-      rw (s .0, length-set) (f .hung .places-long),
-      rw (s .1, length-set) (f .hung .aboves-long),
-      rw (s .2, length-set) (f .hung .befores-long),
+      rw (s .0, length-set) (f .so-far .places-long),
+      rw (s .1, length-set) (f .so-far .aboves-long),
+      rw (s .2, length-set) (f .so-far .befores-long),
     )
 
 returns : tie.Need-returns
 returns c =
-    let s = c .before .before .before .before .place-leaf .ensures in
-    let t = c .place-leaf2 .ensures in
+    let s = c .before .before .before .before .place-number .ensures in
+    let t = c .place-number2 .ensures in
     let p = c .before .before .before .before .before .before .before .before in
     let f = next (p .before .before .before .before .before .before .before .before) in
     rw (t .0, t .1, t .2, s .0, s .1, s .2)
-    (hung-row f (p .before .before .with-pairs .ensures) (p .before .with-pairs2 .ensures) (p .with-pairs3 .ensures))
+    (children-placed f (p .before .before .with-pairs .ensures) (p .before .with-pairs2 .ensures)
+    (p .with-pairs3 .ensures))
 
-pub hang-row-spec : {M : Type 1} → statement M
-hang-row-spec =
+pub place-children-spec : {M : Type 1} → statement M
+place-children-spec =
     tie.close
     (tie.spec
     sub-k
@@ -169,7 +170,7 @@ hang-row-spec =
     add-depth
     sub-depth
     add-depth-2
-    place-leaf-requires
+    place-number-requires
     add-place-leaf
-    place-leaf-requires-2
+    place-number-requires-2
     returns)

@@ -1,15 +1,15 @@
--- `counts::plans::hang` meets its contract: the children of the numbers from c on have their places.
+-- `counts::plans::place_numbers` meets its contract: the children of the numbers from c on have their places.
 use mathlib.Core.Path.{_≡_}
 use Prim.Native.Nat.{_+_, _-_, _*_, _≤_}
 use native.Mathlib.Omega.{arith}
 use borrow.Author.Needs.{needs}
-use Rattle.tree_tables.specs.Orders.{Hung}
-use Rattle.tree_tables.proofs.plans.hang.Statement.{statement}
-use Rattle.tree_tables.proofs.plans.hang.Tie as tie
+use Rattle.tree_tables.specs.Orders.{NumbersPlaced}
+use Rattle.tree_tables.proofs.plans.place_numbers.Statement.{statement}
+use Rattle.tree_tables.proofs.plans.place_numbers.Tie as tie
 
 abbrev Inv-loop : tie.InvT-loop
 Inv-loop n listing sizes counts places₀ aboves₀ befores₀ c₀ places aboves befores c =
-    (n ≤ c) × (c ≤ 2 * n - 2) × Hung n listing places aboves befores c
+    (n ≤ c) × (c ≤ 2 * n - 2) × NumbersPlaced n listing places aboves befores c
 
 abbrev μ-loop : tie.MeasureT-loop
 μ-loop n listing sizes counts places₀ aboves₀ befores₀ c₀ places aboves befores c = c
@@ -26,8 +26,8 @@ loop-holds c = let p = c .before .pre in (omega (arith, p .0 .leaf-count .0), om
 sub-c-2 : tie.Need-sub-c-2 Inv-loop μ-loop
 sub-c-2 c = search needs
 
-hang-row-requires : tie.Need-hang-row-requires Inv-loop μ-loop
-hang-row-requires c κs =
+place-children-requires : tie.Need-place-children-requires Inv-loop μ-loop
+place-children-requires c κs =
     let i = c .before .before .before .before .loop in
     let s = c .before .before .before .before .before .before in
     let next : i .c - 1 + 1 ≡ i .c = omega arith in
@@ -37,7 +37,7 @@ loop-less : tie.Need-loop-less Inv-loop μ-loop
 loop-less c = search needs
 
 loop-again : tie.Need-loop-again Inv-loop μ-loop
-loop-again c = (omega arith, omega arith, c .hang-row .ensures)
+loop-again c = (omega arith, omega arith, c .place-children .ensures)
 
 returns : tie.Need-returns Inv-loop μ-loop
 returns c =
@@ -45,8 +45,8 @@ returns c =
     let end : i .c ≡ c .before .before .before .args .n = omega arith in
     rw end at (i .inv .2)
 
-pub hang-spec : {M : Type 1} → statement M
-hang-spec =
+pub place-numbers-spec : {M : Type 1} → statement M
+place-numbers-spec =
     tie.close
     (tie.spec
     Inv-loop
@@ -55,7 +55,7 @@ hang-spec =
     sub-c
     loop-holds
     sub-c-2
-    hang-row-requires
+    place-children-requires
     loop-less
     loop-again
     returns)

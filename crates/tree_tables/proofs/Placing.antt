@@ -21,8 +21,9 @@ use Rattle.trees.specs.Listings.{rules-refusal-from, rules-refusal, KeepsRules,
 use Rattle.trees.proofs.Trees.{size-node}
 use Rattle.trees.proofs.Rules.{child-in, place-keeps, place-kept}
 use Rattle.trees.proofs.SubtreesByRow.{subtree-at-leaf}
-use Rattle.tree_tables.specs.Orders.{most-numbers, most-sum, row-first, row-second, Prepared, whole, depth, at}
-use Rattle.tree_tables.specs.Orders.{Stands, Laid, HungRow, Hung}
+use Rattle.tree_tables.specs.Orders.{most-numbers, most-sum, Prepared, whole, depth, at}
+use Rattle.listings.specs.Standardising.{row-first, row-second}
+use Rattle.tree_tables.specs.Orders.{PlacedAt, LaidOut, ChildrenPlaced, NumbersPlaced}
 use Rattle.tree_tables.proofs.Children.{Row, row-subtree-at, size-le}
 
 any-more : (x c : ℕ) (l : List ℕ) → any-in (eqb x) (c ∷ l) ≡ false → (eqb x c ≡ false) × (any-in (eqb x) l ≡ false)
@@ -98,7 +99,7 @@ pub record Next (n : ℕ) (l sizes counts places aboves befores : List ℕ) (c a
   pub asked : Prepared n l sizes counts
   pub low : n ≤ c
   pub high : c < 2 * n - 2
-  pub hung : Hung n l places aboves befores (c + 1)
+  pub so-far : NumbersPlaced n l places aboves befores (c + 1)
   pub first : a ≡ row-first n l c
   pub second : b ≡ row-second n l c
 
@@ -132,11 +133,11 @@ module _ {n : ℕ} {l sizes counts places aboves befores : List ℕ} {c a b : �
   y-is = f .asked .sized b (omega (arith, second-below, f .high))
 
   pub in-place : at places c + (at sizes a + at sizes b) ≤ n
-  in-place = omega (arith, f .hung .inside c (f .high), total, x-is, y-is)
+  in-place = omega (arith, f .so-far .inside c (f .high), total, x-is, y-is)
 
   -- all that branches off is small
   branches : at aboves c + (P (size A) + P (size B)) ≤ P n
-  branches = omega (arith, f .hung .small c (f .high), ap P total, P-le (size A) (size B))
+  branches = omega (arith, f .so-far .small c (f .high), ap P total, P-le (size A) (size B))
 
   all-small : P n ≤ most-sum
   all-small = pairs-small n (f .asked .leaf-count .1)
@@ -178,8 +179,8 @@ module _ {n : ℕ} {l sizes counts places aboves befores : List ℕ} {c a b : �
 
     -- what stands at another number stays
     kept :
-        (k p u w : ℕ) → k ≢ a → k ≢ b → Stands (at places) (at aboves) (at befores) k p u w
-        → Stands (at places′) (at aboves′) (at befores′) k p u w
+        (k p u w : ℕ) → k ≢ a → k ≢ b → PlacedAt (at places) (at aboves) (at befores) k p u w
+        → PlacedAt (at places′) (at aboves′) (at befores′) k p u w
     kept k p u w da db s = (
       stored-other places a b (at places c) (at places c + at sizes a) k da db ∙ s .0,
       stored-other aboves a b ua ub k da db ∙ s .1,
@@ -194,24 +195,24 @@ module _ {n : ℕ} {l sizes counts places aboves befores : List ℕ} {c a b : �
 
     -- the two children of this row
     first-stands :
-        Stands (at places′) (at aboves′) (at befores′) a (at places c) (at aboves c + P (size B)) (at befores c)
+        PlacedAt (at places′) (at aboves′) (at befores′) a (at places c) (at aboves c + P (size B)) (at befores c)
     first-stands = (
-      stored-first places a b (at places c) (at places c + at sizes a) differ (fits places (f .hung .places-long)),
-      stored-first aboves a b ua ub differ (fits aboves (f .hung .aboves-long)) ∙ omega (arith, ap P y-is),
-      stored-first befores a b (at befores c) deep differ (fits befores (f .hung .befores-long)),
+      stored-first places a b (at places c) (at places c + at sizes a) differ (fits places (f .so-far .places-long)),
+      stored-first aboves a b ua ub differ (fits aboves (f .so-far .aboves-long)) ∙ omega (arith, ap P y-is),
+      stored-first befores a b (at befores c) deep differ (fits befores (f .so-far .befores-long)),
     )
       where
         fits : (xs : List ℕ) → length xs ≡ most-numbers → a < length xs
         fits xs e = omega (arith, first-below, few)
 
     second-stands :
-        Stands (at places′) (at aboves′) (at befores′) b (at places c + size A) (at aboves c + P (size A))
+        PlacedAt (at places′) (at aboves′) (at befores′) b (at places c + size A) (at aboves c + P (size A))
         (depth n A B (at aboves c))
     second-stands = (
-      stored-second places a b (at places c) (at places c + at sizes a) (fits places (f .hung .places-long))
+      stored-second places a b (at places c) (at places c + at sizes a) (fits places (f .so-far .places-long))
           ∙ omega (arith, x-is),
-      stored-second aboves a b ua ub (fits aboves (f .hung .aboves-long)) ∙ omega (arith, ap P x-is),
-      stored-second befores a b (at befores c) deep (fits befores (f .hung .befores-long)) ∙ depth-is,
+      stored-second aboves a b ua ub (fits aboves (f .so-far .aboves-long)) ∙ omega (arith, ap P x-is),
+      stored-second befores a b (at befores c) deep (fits befores (f .so-far .befores-long)) ∙ depth-is,
     )
       where
         fits : (xs : List ℕ) → length xs ≡ most-numbers → b < length xs
@@ -228,8 +229,8 @@ module _ {n : ℕ} {l sizes counts places aboves befores : List ℕ} {c a b : �
         )
 
     old-row :
-        (d : ℕ) → c + 1 ≤ d → d < 2 * n - 2 → HungRow n l places aboves befores d
-        → HungRow n l places′ aboves′ befores′ d
+        (d : ℕ) → c + 1 ≤ d → d < 2 * n - 2 → ChildrenPlaced n l places aboves befores d
+        → ChildrenPlaced n l places′ aboves′ befores′ d
     old-row d ld hd r =
         let here = same d (omega (arith, first-below)) (omega (arith, second-below)) in
         let long = f .asked .listing .numbers in
@@ -242,39 +243,39 @@ module _ {n : ℕ} {l sizes counts places aboves befores : List ℕ} {c a b : �
           kept (row-second n l d) _ _ _ (two .0) (two .1) (r .1),
         )
 
-    this-row : HungRow n l places′ aboves′ befores′ c
+    this-row : ChildrenPlaced n l places′ aboves′ befores′ c
     this-row =
         let here = same c (omega (arith, first-below)) (omega (arith, second-below)) in
         rw (here .0, here .1, here .2, ← f .first, ← f .second) (first-stands, second-stands)
 
-    pub hung-row : Hung n l places′ aboves′ befores′ c
-    hung-row = record {
-      places-long = stored-length places a b (at places c) (at places c + at sizes a) ∙ f .hung .places-long;
-      aboves-long = stored-length aboves a b ua ub ∙ f .hung .aboves-long;
+    pub children-placed : NumbersPlaced n l places′ aboves′ befores′ c
+    children-placed = record {
+      places-long = stored-length places a b (at places c) (at places c + at sizes a) ∙ f .so-far .places-long;
+      aboves-long = stored-length aboves a b ua ub ∙ f .so-far .aboves-long;
       befores-long =
-          stored-length befores a b (at befores c) deep ∙ f .hung .befores-long;
+          stored-length befores a b (at befores c) deep ∙ f .so-far .befores-long;
       inside = λ d h. elim (ℕ-discrete d a) [
         | yes e ↦ rw (e, first-stands .0) (omega (arith, in-place, x-is, y-is))
         | no da ↦ elim (ℕ-discrete d b) [
           | yes e ↦ rw (e, second-stands .0) (omega (arith, in-place, x-is, y-is))
-          | no db ↦ rw (same d da db .0) (f .hung .inside d h)
+          | no db ↦ rw (same d da db .0) (f .so-far .inside d h)
         ]
       ];
       small = λ d h. elim (ℕ-discrete d a) [
         | yes e ↦ rw (e, first-stands .1) (omega (arith, branches))
         | no da ↦ elim (ℕ-discrete d b) [
           | yes e ↦ rw (e, second-stands .1) (omega (arith, branches))
-          | no db ↦ rw (same d da db .1) (f .hung .small d h)
+          | no db ↦ rw (same d da db .1) (f .so-far .small d h)
         ]
       ];
       root = (
-        kept 0 _ _ _ (omega (arith, positive .0)) (omega (arith, positive .1)) (f .hung .root .0),
+        kept 0 _ _ _ (omega (arith, positive .0)) (omega (arith, positive .1)) (f .so-far .root .0),
         kept (2 * n - 3) _ _ _ (omega (arith, first-below, f .high)) (omega (arith, second-below, f .high))
-            (f .hung .root .1),
+            (f .so-far .root .1),
       );
       rows = λ d ld hd. elim (ℕ-discrete d c) [
         | yes e ↦ rw e this-row
-        | no e ↦ old-row d (omega arith) hd (f .hung .rows d (omega arith) hd)
+        | no e ↦ old-row d (omega arith) hd (f .so-far .rows d (omega arith) hd)
       ];
     }
       where
@@ -319,10 +320,10 @@ module _ (n : ℕ) (l : List ℕ) (count : IsLeafCount n) (keeps : KeepsRules n 
   leaf-zero : size (subtree-at n l 0) ≡ 1
   leaf-zero = rw (subtree-at-leaf n l 0 (omega arith)) (unfold size in refl)
 
-  pub hung-start :
-      Hung n l (stored zeros (2 * n - 3) 0 1 0) (stored zeros (2 * n - 3) 0 0 others)
+  pub placing-starts :
+      NumbersPlaced n l (stored zeros (2 * n - 3) 0 1 0) (stored zeros (2 * n - 3) 0 0 others)
       (stored zeros (2 * n - 3) 0 (whole - others) 0) (2 * n - 2)
-  hung-start = record {
+  placing-starts = record {
     places-long = stored-length zeros (2 * n - 3) 0 1 0 ∙ zeros-long;
     aboves-long = stored-length zeros (2 * n - 3) 0 0 others ∙ zeros-long;
     befores-long = stored-length zeros (2 * n - 3) 0 (whole - others) 0 ∙ zeros-long;
@@ -344,8 +345,8 @@ module _ (n : ℕ) (l : List ℕ) (count : IsLeafCount n) (keeps : KeepsRules n 
 -- every number has its place: so each subtree's leaves follow one another
 pub laid-under :
     {n : ℕ} {l sizes counts places aboves befores : List ℕ} → Prepared n l sizes counts
-    → Hung n l places aboves befores n → (m d : ℕ) → d < m → d < 2 * n - 2
-    → Laid n (at places) (at aboves) (at befores) (subtree-at n l d) (at places d) (at aboves d) (at befores d)
+    → NumbersPlaced n l places aboves befores n → (m d : ℕ) → d < m → d < 2 * n - 2
+    → LaidOut n (at places) (at aboves) (at befores) (subtree-at n l d) (at places d) (at aboves d) (at befores d)
 laid-under g h zero d lm ln = absurd (omega arith)
 laid-under {n} {l} g h (suc m) d lm ln = elim (decLt d n) [
   | yes low ↦ rw (subtree-at-leaf n l d low) (refl, refl, refl)
