@@ -117,8 +117,8 @@ place-number-requires c κs =
     let f = next (c .before .before .before .before .before .before .before .before .before .before .before) in
     (omega (arith, first-below f, few f), f .so-far .places-long, f .so-far .aboves-long, f .so-far .befores-long)
 
-add-place-leaf : tie.Need-add-place-leaf
-add-place-leaf c =
+add-place-number : tie.Need-add-place-number
+add-place-number c =
     let f = next (c .before .before .before .before .before .before .before .before .before .before .before .before) in
     omega (arith, in-place f, f .asked .leaf-count .1)
 
@@ -171,6 +171,6 @@ place-children-spec =
     sub-depth
     add-depth-2
     place-number-requires
-    add-place-leaf
+    add-place-number
     place-number-requires-2
     returns)

@@ -46,14 +46,14 @@ sub-with-pairs c = search needs
 with-pairs-requires : tie.Need-with-pairs-requires
 with-pairs-requires c κs = search needs
 
-mul-place-leaf : tie.Need-mul-place-leaf
-mul-place-leaf c = search needs
+mul-place-number : tie.Need-mul-place-number
+mul-place-number c = search needs
 
-sub-place-leaf : tie.Need-sub-place-leaf
-sub-place-leaf c = search needs
+sub-place-number : tie.Need-sub-place-number
+sub-place-number c = search needs
 
-sub-place-leaf-2 : tie.Need-sub-place-leaf-2
-sub-place-leaf-2 c =
+sub-place-number-2 : tie.Need-sub-place-number-2
+sub-place-number-2 c =
     let s = c .before .before .before .before .before .before in
     omega (arith, others c, pairs-small (s .args .n - 1) (omega (arith, s .pre .0 .1)))
 
@@ -111,9 +111,9 @@ plan-spec =
     count-leaves-requires
     sub-with-pairs
     with-pairs-requires
-    mul-place-leaf
-    sub-place-leaf
-    sub-place-leaf-2
+    mul-place-number
+    sub-place-number
+    sub-place-number-2
     place-number-requires
     place-number-requires-2
     place-numbers-requires
