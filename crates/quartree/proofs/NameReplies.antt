@@ -18,7 +18,7 @@ use Rattle.sheets.proofs.Accepted.{names-good}
 use Rattle.sheet_names.specs.Operations.{name-answer}
 use Rattle.sheet_names.proofs.Asked.{leaf-below}
 use Rattle.quartree.specs.Replies.{reply-with}
-use Rattle.quartree.proofs.Replies.{eight-bits, with-figure, two-in-one}
+use Rattle.quartree.proofs.Replies.{eight-bits, reply-with-figure, two-in-one}
 
 -- a name is short
 name-short : (x : List ℕ) → is-name x ≡ true → length x < eight-bits
@@ -53,5 +53,5 @@ module _ (S : List ℕ) (leaf : ℕ) (x : List ℕ) (e : name-answer S (leaves-o
   name-apart =
       let both = two-in-one (name-start S leaf + 1) (length (name S leaf)) short in
       let figured : replied / eight-bits ≡ place-and-length =
-      with-figure place-and-length (name-answer S (leaves-of S) (offset-of S) leaf) ∙ rw e in
+      reply-with-figure place-and-length (name-answer S (leaves-of S) (offset-of S) leaf) ∙ rw e in
       (ap (λ k. k / eight-bits) figured ∙ both .0, ap (λ k. k % eight-bits) figured ∙ both .1)

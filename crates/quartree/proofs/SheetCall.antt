@@ -9,9 +9,9 @@ use Rattle.merging.specs.Meaning.{HasTree, HasNoTree}
 use Rattle.sheets.specs.Sheets.{leaves-of, cells-of}
 use Rattle.sheet_tables.specs.Operations.{table-with}
 use Rattle.sheet_trees.specs.Operations.{sheet-bytes-answer}
-use Rattle.sheet_trees.proofs.Promises.{Taken, sheet-accepted-exactly-when, sheet-refused-exactly-when}
+use Rattle.sheet_trees.proofs.Promises.{SheetPasses, sheet-accepted-exactly-when, sheet-refused-exactly-when}
 use Rattle.quartree.specs.Replies.{number-alone}
-use Rattle.quartree.proofs.Replies.{alone-zero, alone-six}
+use Rattle.quartree.proofs.Replies.{number-alone-zero, number-alone-six}
 
 module _ (S : List ℕ) (room : ℕ) where
   abbrev n : ℕ
@@ -20,14 +20,14 @@ module _ (S : List ℕ) (room : ℕ) where
   abbrev t : List ℕ
   t = table-with n (cells-of S)
 
-  pub zero-exactly-when : (number-alone (sheet-bytes-answer S room) ≡ 0) ↔ (Taken S room × HasTree n t)
+  pub zero-exactly-when : (number-alone (sheet-bytes-answer S room) ≡ 0) ↔ (SheetPasses S room × HasTree n t)
   zero-exactly-when =
-      let zero = alone-zero (sheet-bytes-answer S room) in
+      let zero = number-alone-zero (sheet-bytes-answer S room) in
       let tree = sheet-accepted-exactly-when S room in
       (λ h. tree .0 (zero .0 h), λ h. zero .1 (tree .1 h))
 
-  pub six-exactly-when : (number-alone (sheet-bytes-answer S room) ≡ 6) ↔ (Taken S room × HasNoTree n t)
+  pub six-exactly-when : (number-alone (sheet-bytes-answer S room) ≡ 6) ↔ (SheetPasses S room × HasNoTree n t)
   six-exactly-when =
-      let six = alone-six (sheet-bytes-answer S room) in
+      let six = number-alone-six (sheet-bytes-answer S room) in
       let no-tree = sheet-refused-exactly-when S room in
       (λ h. no-tree .0 (six .0 h), λ h. six .1 (no-tree .1 h))

@@ -22,7 +22,7 @@ use Rattle.merging.proofs.Meaning as meaning
 use Rattle.sheets.specs.Sheets.{low-first, leaves-of, offset-of, cells-of}
 use Rattle.sheets.specs.Operations.{sheet-refusal, check-sheet-answer}
 use Rattle.sheets.proofs.Causes.{SheetCauses, sheet-arises}
-use Rattle.sheet_tables.specs.Operations.{table-with}
+use Rattle.packed_tables.specs.Packed.{table-with}
 use Rattle.sheet_tables.proofs.SheetIsTable.{sheet-is-table}
 use Rattle.sheet_trees.specs.Operations.{sheet-tree, in-bytes, sheet-bytes-answer}
 use Rattle.sheet_trees.specs.Meanings.{SheetTreeMeans, InBytes, SheetBytesMean}
@@ -50,11 +50,11 @@ unfolding in-bytes
 refused-bytes a r h = rw h
 
 -- a sheet passes with some room exactly when it is accepted, and the room is enough
-pub taken-exactly :
+pub sheet-passes-exactly :
     (S : List ℕ) (due room : ℕ)
     → (sheet-refusal S due room ≡ none) ↔ ((check-sheet-answer S ≡ accepted tt) × (due ≤ room))
 unfolding check-sheet-answer
-taken-exactly S due room = (
+sheet-passes-exactly S due room = (
   λ h. (
     rw (other-room S due room h 0 0 (omega arith)) (unfold answered in refl),
     accepted-here S due room h .room-enough,
@@ -98,14 +98,14 @@ module _ (S : List ℕ) where
     due = 4 * (n - 2)
 
     -- the sheet is accepted, and the room is enough
-    abbrev pub Taken : Type 0
-    Taken = (check-sheet-answer S ≡ accepted tt) × (due ≤ room)
+    abbrev pub SheetPasses : Type 0
+    SheetPasses = (check-sheet-answer S ≡ accepted tt) × (due ≤ room)
 
-    passed : Taken → sheet-refusal S due room ≡ none
-    passed = taken-exactly S due room .1
+    passed : SheetPasses → sheet-refusal S due room ≡ none
+    passed = sheet-passes-exactly S due room .1
 
-    taken : sheet-refusal S due room ≡ none → Taken
-    taken = taken-exactly S due room .0
+    passes : sheet-refusal S due room ≡ none → SheetPasses
+    passes = sheet-passes-exactly S due room .0
 
     answer : sheet-refusal S due room ≡ none → sheet-bytes-answer S room ≡ in-bytes (sheet-tree S)
     unfolding sheet-bytes-answer
@@ -118,7 +118,8 @@ module _ (S : List ℕ) where
     told b e = unless-accepted (sheet-refusal S due room) _ b e
 
     told-six :
-        sheet-bytes-answer S room ≡ refused NoTree → (sheet-refusal S due room ≡ none) × (sheet-tree S ≡ refused NoTree)
+        sheet-bytes-answer S room ≡ refused NoTree
+        → (sheet-refusal S due room ≡ none) × (sheet-tree S ≡ refused NoTree)
     unfolding sheet-bytes-answer
     told-six e = elim (unless-refused (sheet-refusal S due room) (in-bytes (sheet-tree S)) NoTree e) [
       | inl before ↦ absurd ((rw before at (not-six S due room)) refl)
@@ -127,12 +128,12 @@ module _ (S : List ℕ) where
 
     -- The call is accepted exactly when the sheet is, the room is enough, and some tree has the table.
     pub sheet-accepted-exactly-when :
-        ((b : List ℕ) × (sheet-bytes-answer S room ≡ accepted b)) ↔ (Taken × HasTree n t)
+        ((b : List ℕ) × (sheet-bytes-answer S room ≡ accepted b)) ↔ (SheetPasses × HasTree n t)
     sheet-accepted-exactly-when = (
       λ e.
           let a = told (e .0) (e .1) in
           let l = in-bytes-accepted (sheet-tree S) (e .0) (a .1) in
-          (taken (a .0), meaning.meant-accepted n t (tree-means due room (a .0)) .0 (l .0, l .1)),
+          (passes (a .0), meaning.meant-accepted n t (tree-means due room (a .0)) .0 (l .0, l .1)),
       λ e.
           let h = passed (e .0) in
           let l = meaning.meant-accepted n t (tree-means due room h) .1 (e .1) in
@@ -141,11 +142,11 @@ module _ (S : List ℕ) where
 
     -- It is refused with 6 exactly when the sheet is accepted, the room is enough, and no tree has the table.
     pub sheet-refused-exactly-when :
-        (sheet-bytes-answer S room ≡ refused NoTree) ↔ (Taken × HasNoTree n t)
+        (sheet-bytes-answer S room ≡ refused NoTree) ↔ (SheetPasses × HasNoTree n t)
     sheet-refused-exactly-when = (
       λ e.
           let a = told-six e in
-          (taken (a .0), meaning.meant-refused n t (tree-means due room (a .0)) .0 (a .1)),
+          (passes (a .0), meaning.meant-refused n t (tree-means due room (a .0)) .0 (a .1)),
       λ e.
           let h = passed (e .0) in
           let six = meaning.meant-refused n t (tree-means due room h) .1 (e .1) in

@@ -8,7 +8,7 @@ use Rattle.refusals.specs.Meanings.{MeansUnless}
 use Rattle.merging.specs.Meaning.{TableMeans}
 use Rattle.sheets.specs.Sheets.{leaves-of, cells-of}
 use Rattle.sheets.specs.Operations.{sheet-refusal}
-use Rattle.sheet_tables.specs.Operations.{table-with}
+use Rattle.packed_tables.specs.Packed.{table-with}
 use Rattle.sheet_trees.specs.Operations.{in-bytes}
 
 -- the standard listing of the only tree that has the sheet's table, or 6 where none has it

@@ -61,3 +61,21 @@ module _ (P : Refusal → Type 0) (n : ℕ) (t : List ℕ) (w : CellCauses P n) 
       (λ a. arises-judged P (length-refusal (n * n) (length t)) _ (arises-unless P (eqb (length t) (n * n)) _ input)
       (λ b. arises-judged P (room-refusal due room) _ (arises-unless P (leb due room) _ output)
       (λ d. arises-last P (cells-refusal n t) (cells-arise (count-right n a)))))
+
+-- so the leaves of 5 are below the leaf count
+pub halves-below :
+    (n : ℕ) (t : List ℕ) → IsLeafCount n → (i j : ℕ) → cells-refusal n t ≡ some (Halves i j) → (i < n) × (j < n)
+halves-below n t k i j e = (rw e at (cells-arise Low n t causes k)) i j refl
+  where
+    Low : Refusal → Type 0
+    Low r = (i j : ℕ) → r ≡ Halves i j → (i < n) × (j < n)
+
+    causes : CellCauses Low n
+    causes = record {
+      diagonal = λ k i l a b h. absurd (let z : _≡_ {A = ℕ} 0 1 = cc in omega arith);
+      halves = λ k i j l m a b h. (
+          let first : i ≡ a = cc in
+          let second : j ≡ b = cc in
+          (omega arith, omega arith)
+          );
+    }

@@ -57,15 +57,15 @@ module _ (n : ℕ) (count : IsLeafCount n) (T : Tree) (tree : IsTree n T) where
   many = ordered-nodes n count T tree
 
   -- the node at place k
-  X : ℕ → Tree
-  X k = getD (nodes H) k (leaf 0)
+  node-at : ℕ → Tree
+  node-at k = getD (nodes H) k (leaf 0)
 
-  X-in : (k : ℕ) → k < n - 2 → In (X k) H
-  unfolding X
-  X-in k l = nodes-in H k (rw many l)
+  node-at-in : (k : ℕ) → k < n - 2 → In (node-at k) H
+  unfolding node-at
+  node-at-in k l = nodes-in H k (rw many l)
 
-  split-is : (k : ℕ) → k < n - 3 → leaves (subtree-at n (standard n T) (n + k)) ≡ leaves (X k)
-  unfolding X H
+  split-is : (k : ℕ) → k < n - 3 → leaves (subtree-at n (standard n T) (n + k)) ≡ leaves (node-at k)
+  unfolding node-at H
   split-is k l = rw (standard-node n count T tree k (omega arith))
 
   -- the sides by their places
@@ -76,7 +76,7 @@ module _ (n : ℕ) (count : IsLeafCount n) (T : Tree) (tree : IsTree n T) where
       List·getD-append sides (splits n T) (λ x. false) k (rw length-tab l)
       ∙ getD-tab n (λ i. leaves (leaf i)) k (λ x. false) l
 
-  split-side : (k : ℕ) → k < n - 3 → side n T (n + k) ≡ leaves (X k)
+  split-side : (k : ℕ) → k < n - 3 → side n T (n + k) ≡ leaves (node-at k)
   unfolding edge-sides splits
   split-side k l =
       let sides = tab n (λ i. leaves (leaf i)) in
@@ -134,46 +134,48 @@ module _ (n : ℕ) (count : IsLeafCount n) (T : Tree) (tree : IsTree n T) where
     )
   ]
 
-  X-other : (i k : ℕ) → k < n - 2 → (x : ℕ) × (leaves (X k) x ≡ true) × (x ≢ i)
-  unfolding X
-  X-other i k l =
+  node-at-other : (i k : ℕ) → k < n - 2 → (x : ℕ) × (leaves (node-at k) x ≡ true) × (x ≢ i)
+  unfolding node-at
+  node-at-other i k l =
       let is = nodes-are H k (rw many l) in
-      let distinct = rw (is .2) at (distinct-in H (X k) (d .distinct) (X-in k l)) in
+      let distinct = rw (is .2) at (distinct-in H (node-at k) (d .distinct) (node-at-in k l)) in
       rw (is .2) (other-leaf i (is .0) (is .1) distinct)
 
   -- a later node has a leaf that an earlier one has not
-  X-more :
-      (k j : ℕ) → k < j → j < n - 2 → (x : ℕ) × (x < n) × (0 < x) × (leaves (X j) x ≡ true) × (leaves (X k) x ≡ false)
-  unfolding X
-  X-more k j l lj =
+  node-at-more :
+      (k j : ℕ) → k < j → j < n - 2
+      → (x : ℕ) × (x < n) × (0 < x) × (leaves (node-at j) x ≡ true) × (leaves (node-at k) x ≡ false)
+  unfolding node-at
+  node-at-more k j l lj =
       let r = nodes-more H (d .distinct) k j l (rw many lj) in
-      let below = low (X j) (X-in j lj) (r .0) (r .1) in
+      let below = low (node-at j) (node-at-in j lj) (r .0) (r .1) in
       (r .0, below .1, below .0, r .1, r .2)
 
   -- a leaf and a split: the node has another leaf; and leaf 0, or a leaf of the last node, is in neither
-  leaf-split : (i k : ℕ) → i < n → k < n - 3 → one-edge n (leaves (leaf i)) (leaves (X k)) ≡ false
+  leaf-split : (i k : ℕ) → i < n → k < n - 3 → one-edge n (leaves (leaf i)) (leaves (node-at k)) ≡ false
   leaf-split i k li lk =
-      let here = X-in k (omega arith) in
-      let x = X-other i k (omega arith) in
-      let lx = low (X k) here (x .0) (x .1) .1 in
-      let two = two-edges (leaf i) (X k) (x .0) in
+      let here = node-at-in k (omega arith) in
+      let x = node-at-other i k (omega arith) in
+      let lx = low (node-at k) here (x .0) (x .1) .1 in
+      let two = two-edges (leaf i) (node-at k) (x .0) in
       elim (ℕ-discrete i 0) [
         | no far ↦
             two 0 lx (omega arith) (not-leaf i (x .0) (x .2)) (x .1) (not-leaf i 0 (λ e. far (sym e)))
-            (no-zero (X k) here)
+            (no-zero (node-at k) here)
         | yes near ↦ (
-            let y = X-more k (n - 3) lk (omega arith) in
+            let y = node-at-more k (n - 3) lk (omega arith) in
             let outside : y .0 ≢ i = omega (arith, y .2) in
             two (y .0) lx (y .1) (not-leaf i (x .0) (x .2)) (x .1) (not-leaf i (y .0) outside) (y .4)
             )
       ]
 
   -- two splits: the later has a leaf that the earlier has not, and leaf 0 is in neither
-  split-split : (k j : ℕ) → k < j → j < n - 3 → one-edge n (leaves (X k)) (leaves (X j)) ≡ false
+  split-split : (k j : ℕ) → k < j → j < n - 3 → one-edge n (leaves (node-at k)) (leaves (node-at j)) ≡ false
   split-split k j l lj =
-      let x = X-more k j l (omega arith) in
-      two-edges (X k) (X j) (x .0) 0 (x .1) (omega arith) (x .4) (x .3) (no-zero (X k) (X-in k (omega arith)))
-      (no-zero (X j) (X-in j (omega arith)))
+      let x = node-at-more k j l (omega arith) in
+      two-edges (node-at k) (node-at j) (x .0) 0 (x .1) (omega arith) (x .4) (x .3)
+      (no-zero (node-at k) (node-at-in k (omega arith)))
+      (no-zero (node-at j) (node-at-in j (omega arith)))
 
   no-two : (i j : ℕ) → i < j → j < 2 * n - 3 → one-edge n (side n T i) (side n T j) ≡ false
   no-two i j l lj = elim (decLt j n) [
@@ -181,8 +183,8 @@ module _ (n : ℕ) (count : IsLeafCount n) (T : Tree) (tree : IsTree n T) where
     | no jn ↦ (
         let jq : j ≡ n + (j - n) = omega arith in
         elim (decLt i n) [
-          | yes low ↦ rw (jq, leaf-side i low, split-side (j - n) (omega arith))
-              (leaf-split i (j - n) low (omega arith))
+          | yes low ↦
+              rw (jq, leaf-side i low, split-side (j - n) (omega arith)) (leaf-split i (j - n) low (omega arith))
           | no high ↦ (
               let iq : i ≡ n + (i - n) = omega arith in
               rw (iq, jq, split-side (i - n) (omega arith), split-side (j - n) (omega arith))
@@ -219,14 +221,15 @@ module _ (n : ℕ) (count : IsLeafCount n) (T : Tree) (tree : IsTree n T) where
       rw (any-append f (tab n (λ i. leaves (leaf i))) (splits n T))
       (or-left _ _ (any-tab-found f (λ i. leaves (leaf i)) n i l (one-edge-is n Y (leaf i) same)))
 
-  by-split : (Y : Tree) (k : ℕ) → k < n - 3 → Same n Y (X k) → any-in (one-edge n (leaves Y)) (edge-sides n T) ≡ true
+  by-split :
+      (Y : Tree) (k : ℕ) → k < n - 3 → Same n Y (node-at k) → any-in (one-edge n (leaves Y)) (edge-sides n T) ≡ true
   unfolding edge-sides splits
   by-split Y k l same =
       let f = one-edge n (leaves Y) in
       let g : ℕ → LeafSet = λ k. leaves (subtree-at n (standard n T) (n + k)) in
       rw (any-append f (tab n (λ i. leaves (leaf i))) (splits n T))
       (or-right (any-in f (tab n (λ i. leaves (leaf i)))) _
-      (any-tab-found f g (n - 3) k l (rw (split-is k l) (one-edge-is n Y (X k) same))))
+      (any-tab-found f g (n - 3) k l (rw (split-is k l) (one-edge-is n Y (node-at k) same))))
 
   any-side : (Y : Tree) → In Y T → any-in (one-edge n (leaves Y)) (edge-sides n T) ≡ true
   any-side (leaf i) h =
@@ -244,11 +247,12 @@ module _ (n : ℕ) (count : IsLeafCount n) (T : Tree) (tree : IsTree n T) where
           absurd (never (sym (e (x .0)) ∙ x .1) (not-leaf i (x .0) (x .2)))
       go (node C D) g e =
           let k = nodes-have H C D g in
-          let same : (x : ℕ) → leaves (node A B) x ≡ leaves (X (k .0)) x = λ x. e x ∙ rw (← k .2) (unfold X in refl) in
+          let is : node C D ≡ node-at (k .0) = unfold node-at in sym (k .2) in
+          let same : (x : ℕ) → leaves (node A B) x ≡ leaves (node-at (k .0)) x = λ x. e x ∙ rw is in
           elim (decLt (k .0) (n - 3)) [
             | yes l ↦ by-split (node A B) (k .0) l (inl (λ x lx. same x))
             | no l ↦ (
-                let top : X (k .0) ≡ H = unfold X in nodes-last H (k .0) (omega (arith, many, k .1)) in
+                let top : node-at (k .0) ≡ H = unfold node-at in nodes-last H (k .0) (omega (arith, many, k .1)) in
                 by-leaf (node A B) 0 (omega (arith, count .0))
                 (other-side (node A B) (λ x lx. same x ∙ rw top (unfold H in ordered-leaves T x)))
                 )
@@ -273,6 +277,6 @@ module _ (n : ℕ) (count : IsLeafCount n) (T : Tree) (tree : IsTree n T) where
         flat-part set-bytes bytes-of (λ x. false) long (splits n T) k (rw (splits-many n T) l),
         getD-tab (n - 3) (λ k. leaves (subtree-at n (standard n T) (n + k))) k (λ x. false) l,
         split-is k l,
-        bytes-hold (leaves (X k)) x lx,
+        bytes-hold (leaves (node-at k)) x lx,
       )
-      (is-false (leaves (X k) x) (λ q. omega (arith, low (X k) (X-in k (omega arith)) x q)))
+      (is-false (leaves (node-at k) x) (λ q. omega (arith, low (node-at k) (node-at-in k (omega arith)) x q)))
