@@ -29,7 +29,3 @@ pub with-meaning :
     → (r ≡ told a) × ((after ≡ written a before) × Gives told M r before after)
 with-meaning told M a m p =
     (p .0, (p .1, record { answer = a; means = m; returned = p .0; buffer = p .1 }))
-
--- and the first two of these, to a caller that needs no more
-pub without-meaning : {A B C : Type 0} → A × (B × C) → A × B
-without-meaning p = (p .0, p .1 .0)
