@@ -1,5 +1,5 @@
--- The climb of leaf t: it begins, each merge with a partner adds a row, and it ends where no partner is left. The idea:
--- a pair of two other subtrees that was not eligible stays so, since no merge touches it.
+-- The merges of leaf t's subtree: they begin, each with a partner adds a row, and they end where no partner is left.
+-- The idea: a pair of two other subtrees that was not eligible stays so, since no merge touches it.
 use mathlib.Core.Path.{_≡_, refl, sym, ap, _∙_}
 use mathlib.Core.Logic.{_≢_, inl, inr}
 use mathlib.Core.Bool.{true, false, _||_}
@@ -133,7 +133,7 @@ module _ {n : ℕ} {S : State} (w : WellFormed n S) {label m sizes names rows : 
     counted = omega (arith, l .counted, subtrees-step w i k e);
   }
 
--- A climb begins: the leaf is its own subtree.
+-- The merges of a leaf begin: it is its own subtree.
 pub begin :
     {n : ℕ} {table label m sizes names rows : List ℕ} {r t : ℕ}
     → 0 < t → LeavesMerged n table label m sizes names rows r (t + 1) → MergingLeaf n table label m sizes names rows r t
@@ -232,7 +232,7 @@ module _ {n : ℕ} {table p label m sizes names rows : List ℕ} {r t : ℕ} (g 
           current = current-step;
         }
 
-  -- A climb ends: no label after t may be merged with t.
+  -- The merges of a leaf end: no label after t may be merged with t.
   module _ (miss : (k : ℕ) → t < k → k < n → Joins n table label m sizes t k → ⊥) where
     -- a pair with a leaf of t's subtree would have been found, at the least leaf of the other one
     with-t :

@@ -45,7 +45,7 @@ pub record Current (n : ℕ) (table : List ℕ) (t : ℕ) (S : State) : Type 0 w
       (a b : ℕ) → t < a → t < b → leaves (S .tree t) a ≡ false → leaves (S .tree t) b ≡ false
       → Eligible n 1 (cell n table) S a b → ⊥
 
--- no leaf's is: leaves below t are single, and no two subtrees of the others are eligible
+-- no leaf's subtree is the current one: leaves below t are single, and no two subtrees of the others are eligible
 pub record NoneEligible (n : ℕ) (table : List ℕ) (t : ℕ) (S : State) : Type 0 where
   pub low : (k : ℕ) → k < t → S .tree k ≡ leaf k
   pub spent : (a b : ℕ) → t ≤ a → t ≤ b → Eligible n 1 (cell n table) S a b → ⊥
@@ -56,22 +56,22 @@ pub record ArraysAfter (n : ℕ) (table label m sizes names rows : List ℕ) (r 
   pub holds : HoldsState n label m sizes S
   pub listed : Listed n label names rows r S
 
--- while leaf t climbs
+-- while the subtree of leaf t is merged
 pub record MergingLeaf (n : ℕ) (table label m sizes names rows : List ℕ) (r t : ℕ) : Type 0 where
   pub state : State
   pub forest : ArraysAfter n table label m sizes names rows r state
   pub current : Current n table t state
 
--- when the leaves from t on have climbed
+-- when the subtrees of the leaves from t on have been merged
 pub record LeavesMerged (n : ℕ) (table label m sizes names rows : List ℕ) (r t : ℕ) : Type 0 where
   pub state : State
   pub forest : ArraysAfter n table label m sizes names rows r state
   pub done : NoneEligible n table t state
 
--- when all leaves but 0 have
+-- when those of all leaves but 0 have been merged
 pub record AllMerged (n : ℕ) (table label m sizes names rows : List ℕ) : Type 0 where
   pub many : ℕ
-  pub climbed : LeavesMerged n table label m sizes names rows many 1
+  pub all-merged : LeavesMerged n table label m sizes names rows many 1
 
 -- the arrays as they are made
 pub record Fresh (label m sizes names rows : List ℕ) : Type 0 where

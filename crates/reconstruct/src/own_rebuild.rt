@@ -73,8 +73,8 @@ fn first_partner(
     n
 }
 
-// The first such label, or n. A table that is lent as cells is searched without the bytes, so that no cell asks for them
-// again.
+// The first label after `a` whose subtree may be merged with the subtree `a`, or n. A table that is lent as cells is
+// searched without the bytes, so that no cell asks for them again.
 fn partner(
     n: usize,
     table: &[u32],
@@ -160,7 +160,7 @@ fn merge_leaf(
     r
 }
 
-// Every leaf from n - 1 down to 1 climbs.
+// The subtree of every leaf from n - 1 down to 1 is merged as far as it may be.
 fn merge_leaves(
     n: usize,
     table: &[u32],

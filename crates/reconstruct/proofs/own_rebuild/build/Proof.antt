@@ -1,4 +1,5 @@
--- `reconstruct::own_rebuild::build` meets its contract: single leaves, and then every leaf but 0 climbs.
+-- `reconstruct::own_rebuild::build` meets its contract: single leaves, and then the subtree of every leaf but 0 is
+-- merged.
 use denote.Ref.{now}
 use borrow.Author.Needs.{needs}
 use Rattle.reconstruct.specs.Lent.{lent-table}

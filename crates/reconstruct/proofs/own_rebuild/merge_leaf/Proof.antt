@@ -1,5 +1,5 @@
--- `reconstruct::own_rebuild::merge_leaf` meets its contract. The loop's invariant: leaf t climbs, and `k` is its next
--- partner.
+-- `reconstruct::own_rebuild::merge_leaf` meets its contract. The loop's invariant: the subtree of leaf t is being
+-- merged, and `k` is its next partner.
 use Prim.Native.Nat.{_-_, _<_}
 use native.Mathlib.Omega.{arith}
 use Rattle.reconstruct.specs.Lent.{lent-table}

@@ -1,4 +1,5 @@
--- `reconstruct::own_rebuild::merge_leaves` meets its contract. The loop's invariant: the leaves from t on have climbed.
+-- `reconstruct::own_rebuild::merge_leaves` meets its contract. The loop's invariant: the subtrees of the leaves from t
+-- on have been merged.
 use mathlib.Core.Path.{_≡_}
 use Prim.Native.Nat.{_+_, _-_, _≤_}
 use native.Mathlib.Omega.{arith}
@@ -40,7 +41,7 @@ returns : tie.Need-returns Inv-loop μ-loop
 returns c =
     let l = c .before .loop in
     let e : l .t ≡ 1 = omega (arith, l .inv .0) in
-    record { many = l .r; climbed = rw e at (l .inv .2) }
+    record { many = l .r; all-merged = rw e at (l .inv .2) }
 
 pub merge-leaves-spec : {M : Type 1} → statement M
 merge-leaves-spec =

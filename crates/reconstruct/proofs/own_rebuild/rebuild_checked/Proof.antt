@@ -1,4 +1,4 @@
--- `reconstruct::own_rebuild::rebuild_checked` meets its contract: the climbs end with the tree, if there is one, and
+-- `reconstruct::own_rebuild::rebuild_checked` meets its contract: the merges end with the tree, if there is one, and
 -- then their rows are a listing of it.
 use mathlib.Core.Path.{ap, sym, _∙_}
 use native.Mathlib.Omega.{arith}
@@ -23,7 +23,7 @@ returns c =
     let tested = c .before in
     let built = tested .before .before .before in
     let s = built .before .before .before .before .before .before .before .before .before in
-    answered-none (s .pre .0) (s .pre .1) (built .build .ensures .climbed)
+    answered-none (s .pre .0) (s .pre .1) (built .build .ensures .all-merged)
     (λ q. never (tested .one-subtree-fits .ensures .1 q) (not-true _ (c .if1 .taken))) (now (s .args .out))
 
 sub-end : tie.Need-sub-end
@@ -37,7 +37,7 @@ array-share-prefix-rows c = search needs
 
 slice-aggregate-standardise : tie.Need-slice-aggregate-standardise
 slice-aggregate-standardise c =
-    let listed = c .before .before .before .before .before .build .ensures .climbed .forest .listed in
+    let listed = c .before .before .before .before .before .build .ensures .all-merged .forest .listed in
     sym (length-take-le _ _ (omega (arith, listed .rows-long)))
 
 standardise-requires : tie.Need-standardise-requires
@@ -54,7 +54,7 @@ returns-2 c =
     let built = tested .before .before .before in
     let s = built .before .before .before .before .before .before .before .before .before in
     let one-subtree-fits = tested .one-subtree-fits .ensures .0 (not-false _ (passed .if1 .left)) in
-    let end = built .build .ensures .climbed in (
+    let end = built .build .ensures .all-merged in (
       rebuilt-done (s .pre .0) (s .pre .1) end one-subtree-fits,
       asked .standardise .ensures .1
           ∙ ap (λ a. written a (now (s .args .out)))
