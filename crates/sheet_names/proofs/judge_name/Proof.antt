@@ -1,4 +1,4 @@
--- `names::judge_name` meets its contract: the sheet is judged with its figures, and then the leaf.
+-- `sheet_names::judge_name` meets its contract: the sheet is judged with its figures, and then the leaf.
 use mathlib.Core.Path.{_≡_, sym, _∙_}
 use mathlib.Core.Option.{none}
 use native.Mathlib.Omega.{arith}

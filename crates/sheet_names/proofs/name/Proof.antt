@@ -1,6 +1,6 @@
--- `names::name` meets its contract: a walk of its MIR, by hand. The kept sheet is taken apart, `judge_name` is called
--- on its slice and its figures, then `shown_name` on the slice and the outcome; what it asks, that the name ends within
--- the sheet, follows from what `judge_name` says. All that the proof knows of the two is that they meet their
+-- `sheet_names::name` meets its contract: a walk of its MIR, by hand. The kept sheet is taken apart, `judge_name` is
+-- called on its slice and its figures, then `shown_name` on the slice and the outcome; what it asks, that the name ends
+-- within the sheet, follows from what `judge_name` says. All that the proof knows of the two is that they meet their
 -- contracts. The struct can be copied: what it owns is had twice before each call, and one copy is kept for the exit.
 use mathlib.Core.Path.{_≡_, refl, sym, ap, subst, _∙_}
 use Prim.Native.Nat.{ℕ, _+_, _<_, _≤_, _^_}

@@ -1,5 +1,5 @@
--- `names::name_place` meets its contract: what `judge_name` accepts has a name that ends within the sheet, and the
--- length byte where it starts says how long it is.
+-- `sheet_names::name_place` meets its contract: what `judge_name` accepts has a name that ends within the sheet, and
+-- the length byte where it starts says how long it is.
 use mathlib.Core.Path.{refl, sym, _∙_}
 use Prim.Native.Nat.{_≤_}
 use native.Mathlib.Omega.{arith}

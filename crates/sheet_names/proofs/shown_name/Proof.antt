@@ -1,4 +1,4 @@
--- `names::shown_name` meets its contract: the name stands between its length byte and the next name.
+-- `sheet_names::shown_name` meets its contract: the name stands between its length byte and the next name.
 use mathlib.Core.Path.{_≡_, refl}
 use Prim.Native.Nat.{_+_, _-_, _≤_}
 use native.Mathlib.Omega.{arith}

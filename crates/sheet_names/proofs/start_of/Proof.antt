@@ -1,4 +1,4 @@
--- `names::start_of` meets its contract: after i turns the place is where leaf i's name starts.
+-- `sheet_names::start_of` meets its contract: after i turns the place is where leaf i's name starts.
 use mathlib.Core.Path.{_≡_, refl}
 use Prim.Native.Nat.{_-_, _≤_}
 use native.Mathlib.Omega.{arith}

@@ -1,5 +1,5 @@
--- `strains::judge_rows` meets its contract: the leaf count is what the trailer says, and is at least 3 where the rows
--- are counted.
+-- `sheet_trees::judge_rows` meets its contract: the leaf count is what the trailer says, and is at least 3 where the
+-- rows are counted.
 use mathlib.Core.Path.{ap, sym, _∙_}
 use native.Mathlib.Nat.{mul-le-mul}
 use native.Mathlib.Omega.{arith}

@@ -1,4 +1,4 @@
--- `strains::listing_bytes_of` meets its contract: nothing is written before `judge_rows` and `tree_of` are done;
+-- `sheet_trees::listing_bytes_of` meets its contract: nothing is written before `judge_rows` and `tree_of` are done;
 -- then the listing stands in a local array, and its bytes are written.
 use mathlib.Core.Path.{_≡_, sym, _∙_}
 use mathlib.Core.Option.{none}

@@ -1,4 +1,5 @@
--- `strains::listing_of` meets its contract: nothing is written before `judge_rows` is done, and then `tree_of` decides.
+-- `sheet_trees::listing_of` meets its contract: nothing is written before `judge_rows` is done, and then `tree_of`
+-- decides.
 use mathlib.Core.Path.{_≡_, sym, _∙_}
 use mathlib.Core.Option.{none}
 use Prim.Native.Nat.{_-_, _*_}

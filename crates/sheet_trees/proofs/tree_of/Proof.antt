@@ -1,4 +1,5 @@
--- `strains::tree_of` meets its contract: the bytes between the offset and the trailer are the sheet's table, packed.
+-- `sheet_trees::tree_of` meets its contract: the bytes between the offset and the trailer are the sheet's table,
+-- packed.
 use Prim.Native.Nat.{_-_, _*_}
 use native.Mathlib.Omega.{arith}
 use borrow.Author.Needs.{needs}

@@ -1,4 +1,4 @@
--- `tables::cell_at` meets its contract: the place of a cell is below n * n, which is at most 16,384.
+-- `table_checks::cell_at` meets its contract: the place of a cell is below n * n, which is at most 16,384.
 use native.Mathlib.Omega.{arith}
 use borrow.Author.Needs.{needs}
 use Rattle.base.proofs.Lists.{place}

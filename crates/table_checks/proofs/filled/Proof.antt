@@ -1,4 +1,4 @@
--- `tables::filled` meets its contract: what is found from i on is what is found from the start.
+-- `table_checks::filled` meets its contract: what is found from i on is what is found from the start.
 use mathlib.Core.Path.{_≡_, sym, _∙_}
 use Prim.Native.Nat.{_-_, _≤_}
 use native.Mathlib.Omega.{arith}

@@ -1,4 +1,5 @@
--- `tables::judge` meets its contract: each test is the definition's next one, and a test that passes is passed over.
+-- `table_checks::judge` meets its contract: each test is the definition's next one, and a test that passes is passed
+-- over.
 use mathlib.Core.Path.{ap, sym, _∙_}
 use native.Mathlib.Omega.{arith}
 use borrow.Author.Needs.{needs}

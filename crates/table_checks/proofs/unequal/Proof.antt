@@ -1,4 +1,4 @@
--- `tables::unequal` meets its contract: what is found from row i on is what is found from the start.
+-- `table_checks::unequal` meets its contract: what is found from row i on is what is found from the start.
 use mathlib.Core.Path.{_≡_, sym, _∙_}
 use Prim.Native.Nat.{_*_, _-_, _≤_}
 use native.Mathlib.Nat.{zero-mul, mul-le-mul-right}

@@ -1,4 +1,4 @@
--- `tables::unequal_in_row` meets its contract: what is found from j on is what is found from the start of row i.
+-- `table_checks::unequal_in_row` meets its contract: what is found from j on is what is found from the start of row i.
 use mathlib.Core.Path.{_≡_, sym, _∙_}
 use Prim.Native.Nat.{_+_, _*_, _-_, _≤_, _<_}
 use native.Mathlib.Omega.{arith}

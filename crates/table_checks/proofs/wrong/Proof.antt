@@ -1,4 +1,4 @@
--- `tables::wrong` meets its contract: a filled cell of the diagonal decides, and after it the halves.
+-- `table_checks::wrong` meets its contract: a filled cell of the diagonal decides, and after it the halves.
 use mathlib.Core.Path.{_∙_}
 use borrow.Author.Needs.{needs}
 use borrow.Author.Tests.{lt-ltb, le-ltb}

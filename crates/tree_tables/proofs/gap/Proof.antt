@@ -1,5 +1,5 @@
--- `counts::gap` meets its contract: nothing is written before the listing and then the table are judged; then the gap
--- at each cell is written.
+-- `tree_tables::gap` meets its contract: nothing is written before the listing and then the table are judged; then the
+-- gap at each cell is written.
 use mathlib.Core.Path.{_≡_, ap, sym, _∙_}
 use mathlib.Core.Option.{none}
 use Prim.Native.Nat.{_*_}

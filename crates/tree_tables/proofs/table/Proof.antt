@@ -1,5 +1,5 @@
--- `counts::table` meets its contract: nothing is written before `judge` is done, and what it accepts keeps the rules,
--- so that the table of its tree is written.
+-- `tree_tables::table` meets its contract: nothing is written before `judge` is done, and what it accepts keeps the
+-- rules, so that the table of its tree is written.
 use mathlib.Core.Path.{_≡_, ap, sym, _∙_}
 use mathlib.Core.Option.{none}
 use Prim.Native.Nat.{_*_}

@@ -1,4 +1,4 @@
--- `strains::bytes::byte_at` meets its contract: an even place has the low byte, an odd one the high byte.
+-- `sheet_trees::bytes::byte_at` meets its contract: an even place has the low byte, an odd one the high byte.
 use mathlib.Core.Path.{_≡_}
 use mathlib.Core.Logic.{_≢_}
 use Prim.Native.Nat.{_%_}

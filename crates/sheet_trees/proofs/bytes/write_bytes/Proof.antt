@@ -1,4 +1,4 @@
--- `strains::bytes::write_bytes` meets its contract: after k turns the first k bytes are at the front of the buffer.
+-- `sheet_trees::bytes::write_bytes` meets its contract: after k turns the first k bytes are at the front of the buffer.
 use mathlib.Core.Path.{_≡_, sym, _∙_, ap}
 use Prim.Native.Nat.{_-_, _≤_}
 use native.Mathlib.Omega.{arith}

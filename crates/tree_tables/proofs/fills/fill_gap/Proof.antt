@@ -1,4 +1,4 @@
--- `counts::fills::fill_gap` meets its contract: the rows before i are written.
+-- `tree_tables::fills::fill_gap` meets its contract: the rows before i are written.
 use mathlib.Core.Path.{_≡_, refl}
 use mathlib.Core.List.{List}
 use Prim.Native.Nat.{ℕ, _-_, _*_, _/_, _%_, _≤_}

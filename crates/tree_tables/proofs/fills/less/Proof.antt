@@ -1,4 +1,5 @@
--- `counts::fills::less` meets its contract: a number of 32 bits is itself in 64 bits, and the difference of two fits.
+-- `tree_tables::fills::less` meets its contract: a number of 32 bits is itself in 64 bits, and the difference of two
+-- fits.
 use borrow.Author.Needs.{needs}
 use mir.Facts.{toZ-ofZ}
 use Rattle.tree_tables.proofs.Signed.{wide, difference-fits}

@@ -1,4 +1,4 @@
--- `counts::fills::write_row` meets its contract: the rows before i and j cells of row i are written.
+-- `tree_tables::fills::write_row` meets its contract: the rows before i and j cells of row i are written.
 use mathlib.Core.Path.{_≡_, refl, sym, _∙_}
 use mathlib.Core.List.{List}
 use Prim.Native.Nat.{ℕ, _+_, _-_, _*_, _≤_, _<_}

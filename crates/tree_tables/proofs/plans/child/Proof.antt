@@ -1,4 +1,4 @@
--- `counts::plans::child` meets its contract: a number of 16 bits fits.
+-- `tree_tables::plans::child` meets its contract: a number of 16 bits fits.
 use native.Mathlib.Omega.{arith}
 use borrow.Author.Needs.{needs}
 use Rattle.tree_tables.proofs.plans.child.Statement.{statement}

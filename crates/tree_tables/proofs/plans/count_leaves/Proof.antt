@@ -1,4 +1,4 @@
--- `counts::plans::count_leaves` meets its contract: the sizes under the numbers below c are there.
+-- `tree_tables::plans::count_leaves` meets its contract: the sizes under the numbers below c are there.
 use mathlib.Core.Path.{_≡_}
 use Prim.Native.Nat.{_+_, _-_, _*_, _≤_}
 use native.Mathlib.Omega.{arith}

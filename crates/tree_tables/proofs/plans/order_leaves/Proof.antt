@@ -1,4 +1,5 @@
--- `counts::plans::order_leaves` meets its contract: the leaves below j stand at their places, which no other leaf has.
+-- `tree_tables::plans::order_leaves` meets its contract: the leaves below j stand at their places, which no other leaf
+-- has.
 use mathlib.Core.Path.{_≡_, _∙_}
 use mathlib.Core.List.{List}
 use Prim.Native.Nat.{ℕ, _-_, _≤_, _<_}

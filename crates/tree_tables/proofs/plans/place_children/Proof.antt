@@ -1,4 +1,4 @@
--- `counts::plans::place_children` meets its contract: what the two children are given is what the row asks.
+-- `tree_tables::plans::place_children` meets its contract: what the two children are given is what the row asks.
 use Prim.Native.Nat.{_+_, _≤_}
 use native.Mathlib.Omega.{arith}
 use borrow.Author.Needs.{needs}

@@ -1,4 +1,4 @@
--- `counts::plans::place_numbers` meets its contract: the children of the numbers from c on have their places.
+-- `tree_tables::plans::place_numbers` meets its contract: the children of the numbers from c on have their places.
 use mathlib.Core.Path.{_≡_}
 use Prim.Native.Nat.{_+_, _-_, _*_, _≤_}
 use native.Mathlib.Omega.{arith}

@@ -1,4 +1,4 @@
--- `counts::plans::plan` meets its contract: the last number and leaf 0 have their places first, then all others.
+-- `tree_tables::plans::plan` meets its contract: the last number and leaf 0 have their places first, then all others.
 use mathlib.Core.Path.{_≡_, refl, ap, _∙_}
 use Prim.Native.Nat.{ℕ, _-_}
 use native.Mathlib.Nat.{zero-add}

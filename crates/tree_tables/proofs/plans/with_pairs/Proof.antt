@@ -1,4 +1,4 @@
--- `counts::plans::with_pairs` meets its contract: the entry at k of the pair counts is P(k), which is small.
+-- `tree_tables::plans::with_pairs` meets its contract: the entry at k of the pair counts is P(k), which is small.
 use mathlib.Core.Path.{_≡_}
 use Prim.Native.Nat.{_+_}
 use native.Mathlib.Omega.{arith}

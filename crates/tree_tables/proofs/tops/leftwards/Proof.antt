@@ -1,4 +1,4 @@
--- `counts::tops::leftwards` meets its contract: the places from t to p have their least depths.
+-- `tree_tables::tops::leftwards` meets its contract: the places from t to p have their least depths.
 use mathlib.Core.Path.{_≡_, refl, _∙_}
 use Prim.Native.Nat.{ℕ, _-_, _≤_, _<_}
 use native.Mathlib.Omega.{arith}

@@ -1,4 +1,4 @@
--- `counts::tops::rightwards` meets its contract: the places between p and t have their least depths.
+-- `tree_tables::tops::rightwards` meets its contract: the places between p and t have their least depths.
 use mathlib.Core.Path.{_≡_}
 use Prim.Native.Nat.{ℕ, _+_, _-_, _≤_, _<_}
 use native.Mathlib.Omega.{arith}
