@@ -23,7 +23,7 @@ use Rattle.sheets.specs.Sheets.{low-first, leaves-of, offset-of, cells-of}
 use Rattle.sheets.specs.Operations.{sheet-refusal, check-sheet-answer}
 use Rattle.sheets.proofs.Causes.{SheetCauses, sheet-arises}
 use Rattle.packed_tables.specs.Packed.{table-with}
-use Rattle.sheet_tables.proofs.SheetIsTable.{sheet-is-table}
+use Rattle.packed_tables.proofs.PackedIsTable.{sheet-is-table}
 use Rattle.sheet_trees.specs.Operations.{sheet-tree, in-bytes, sheet-bytes-answer}
 use Rattle.sheet_trees.specs.Meanings.{SheetTreeMeans, InBytes, SheetBytesMean}
 use Rattle.sheet_trees.proofs.SheetTree.{accepted-here, other-room}
