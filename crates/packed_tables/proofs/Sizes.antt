@@ -1,15 +1,13 @@
 -- Bytes that are a packed table: what the test says; and a cell and a row, where the sizes and the leaves are right.
 use mathlib.Core.Path.{_≡_}
-use mathlib.Core.Bool.{true, false, _&&_}
+use mathlib.Core.Bool.{true, _&&_}
 use mathlib.Core.List.{List}
 use Prim.Native.Nat.{ℕ, _-_, _*_, _≤_, _<_}
-use native.Mathlib.Nat.{mul-le-mul}
-use native.Mathlib.Omega.{arith}
 use borrow.Author.Tests.{lt-ltb, le-leb, eqb-true, eq-eqb}
 use lib.Dec.{leb, eqb}
 use lib.ListN.{length}
 use Rattle.base.specs.Lists.{filled}
-use Rattle.base.proofs.Bools.{and-both, is-false}
+use Rattle.base.proofs.Bools.{and-both}
 use Rattle.limits.specs.Limits.{most-leaves}
 use Rattle.listings.proofs.ListingRefusal.{is-leaf-count}
 use Rattle.packed_tables.specs.Packed.{mirrored, packed-cells, Packed}
@@ -21,13 +19,6 @@ module _ (n : ℕ) (B : List ℕ) where
   passed-packed h =
       let r = and-both (leb 3 n && leb n most-leaves) (eqb (length B) (n * (n - 1))) h in
       (is-leaf-count n (r .0), eqb-true (length B) (n * (n - 1)) (r .1))
-
-  -- no bytes are none
-  pub none-packed : length B ≡ 0 → is-packed n B ≡ false
-  none-packed e = is-false (is-packed n B) (λ h.
-      let p = passed-packed h in
-      let less : 2 ≤ n - 1 = omega (arith, p .0) in
-      omega (arith, e, p .1, mul-le-mul (p .0 .0) less))
 
   module _ (p : Packed n B) where
     pub packed-passes : is-packed n B ≡ true

@@ -4,13 +4,10 @@ ghost use Rattle.packed_tables.specs.Operations.{is-packed, packed-cell,
 
 mod reading;
 
-// Whether bytes are a packed table of n leaves. That no bytes are none is told first: a rebuild of cells asks it often.
+// Whether bytes are a packed table of n leaves.
 pub fn is_packed(n: usize, packed: &[u8]) -> bool
     ensures { λ r. ⌜ r ≡ is-packed n (now (packed .entry)) ⌝ }
 {
-    if packed.len() == 0 {
-        return false;
-    }
     if !listings::leaf_count(n) {
         return false;
     }

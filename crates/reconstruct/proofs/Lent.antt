@@ -1,20 +1,21 @@
 -- The table that is lent: which of its forms is meant, and its cells and rows as code reads them.
-use mathlib.Core.Path.{_≡_, refl, sym, _∙_}
+use mathlib.Core.Path.{_≡_, sym, _∙_}
 use mathlib.Core.Bool.{true, false}
 use mathlib.Core.List.{List, []}
 use Prim.Native.Nat.{ℕ, _+_, _-_, _*_, _≤_, _<_}
-use native.Mathlib.Nat.{zero-mul, zero-add}
+use native.Mathlib.Nat.{mul-le-mul, zero-mul, zero-add}
 use native.Mathlib.Omega.{arith}
 use lib.ListN.{length, getD, take, drop}
 use lib.Seq.{getD-take, getD-drop}
 use Rattle.base.specs.Numbers.{count-below}
+use Rattle.base.proofs.Bools.{is-false}
 use Rattle.base.proofs.Counts.{count-ext}
 use Rattle.base.proofs.Filling.{getD-filled}
 use Rattle.trees.specs.Tables.{cell}
 use Rattle.packed_tables.specs.Packed.{mirrored, table-with, packed-cells, Packed}
 use Rattle.packed_tables.specs.Operations.{is-packed, packed-cell, with-packed-row}
 use Rattle.packed_tables.proofs.PackedIsTable.{cell-is}
-use Rattle.packed_tables.proofs.Sizes.{none-packed, cell-read, row-read}
+use Rattle.packed_tables.proofs.Sizes.{passed-packed, cell-read, row-read}
 use Rattle.reconstruct.specs.Lent.{lent-table}
 use Rattle.reconstruct.specs.Fits.{mismatch-in, mismatch-at}
 
@@ -27,9 +28,15 @@ module _ (n : ℕ) (t B : List ℕ) where
   unfolding lent-table
   as-cells h = rw h
 
--- where there are no bytes
+-- no bytes are no packed table
 pub no-bytes : (n : ℕ) (t : List ℕ) → lent-table n t [] ≡ t
-no-bytes n t = as-cells n t [] (none-packed n [] refl)
+no-bytes n t = as-cells n t [] (is-false (is-packed n []) none-packed)
+  where
+    none-packed : is-packed n [] ≡ true → ⊥
+    none-packed h =
+        let p = passed-packed n [] h in
+        let less : 2 ≤ n - 1 = omega (arith, p .0) in
+        omega (arith, p .1, mul-le-mul (p .0 .0) less)
 
 -- cells of a packed table: one, and a row that was copied to the front of a buffer
 module _ (n : ℕ) (B : List ℕ) (p : Packed n B) where

@@ -48,7 +48,7 @@ fn joins(
 }
 
 // The first label after `a` whose subtree may be merged with the subtree `a`, or n.
-fn first_partner(
+fn partner(
     n: usize,
     table: &[u32],
     packed: &[u8],
@@ -71,29 +71,6 @@ fn first_partner(
         b += 1;
     }
     n
-}
-
-// The first label after `a` whose subtree may be merged with the subtree `a`, or n. A table that is lent as cells is
-// searched without the bytes, so that no cell asks for them again.
-fn partner(
-    n: usize,
-    table: &[u32],
-    packed: &[u8],
-    label: &[u32; MOST],
-    m: &[u32; MOST],
-    sizes: &[usize; MOST],
-    p: &[u32; MOST + 1],
-    a: usize,
-) -> usize
-    requires { ⌜ SizesFit n (lent-table n (now table) (now packed)) (now label) (now m) (now sizes) (now p)
-        × (getD (now label) a 0 ≡ a) × (a < n) ⌝ }
-    ensures { λ r. ⌜ Partner n (lent-table n (now (table .entry)) (now (packed .entry)))
-        (now (label .entry)) (now (m .entry)) (now (sizes .entry)) a r ⌝ }
-{
-    if packed_tables::is_packed(n, packed) {
-        return first_partner(n, table, packed, label, m, sizes, p, a);
-    }
-    first_partner(n, table, b"", label, m, sizes, p, a)
 }
 
 // Each leaf by itself: its own number.

@@ -1,4 +1,5 @@
--- `packed_tables::is_packed` meets its contract: no bytes are no packed table, and else its tests are the definition's.
+-- `packed_tables::is_packed` meets its contract: the leaf count passed its test, and the machine's comparison is the
+-- definition's.
 use mathlib.Core.Path.{sym, _∙_}
 use native.Mathlib.Nat.{mul-le-mul}
 use native.Mathlib.Omega.{arith}
@@ -8,36 +9,32 @@ use Prim.Native.Nat.{_-_, _≤_}
 use Rattle.limits.specs.Limits.{most-leaves, IsLeafCount}
 use Rattle.listings.proofs.ListingRefusal.{is-leaf-count}
 use Rattle.packed_tables.specs.Operations.{is-packed}
-use Rattle.packed_tables.proofs.Sizes.{none-packed}
 use Rattle.packed_tables.proofs.is_packed.Statement.{statement}
 use Rattle.packed_tables.proofs.is_packed.Tie as tie
-
-returns : tie.Need-returns
-returns c = sym (none-packed _ _ (c .if1 .taken))
 
 leaf-count-requires : tie.Need-leaf-count-requires
 leaf-count-requires c κs = search needs
 
-returns-2 : tie.Need-returns-2
+returns : tie.Need-returns
 unfolding is-packed
-returns-2 c = rw (sym (c .before .leaf-count .ensures) ∙ not-true _ (c .if2 .taken))
+returns c = rw (sym (c .before .leaf-count .ensures) ∙ not-true _ (c .if1 .taken))
 
 -- the leaf count passed its test
-count : (c : tie.Else2) → IsLeafCount (c .before .before .before .before .args .n)
-count c = is-leaf-count _ (sym (c .before .leaf-count .ensures) ∙ not-false _ (c .if2 .left))
+count : (c : tie.Else1) → IsLeafCount (c .before .before .before .args .n)
+count c = is-leaf-count _ (sym (c .before .leaf-count .ensures) ∙ not-false _ (c .if1 .left))
 
 sub-result : tie.Need-sub-result
 sub-result c = omega (arith, count c)
 
 mul-result : tie.Need-mul-result
 mul-result c =
-    let n = c .before .before .before .before .args .n in
+    let n = c .before .before .before .args .n in
     let less : n - 1 ≤ most-leaves = omega (arith, count c) in
     omega (arith, mul-le-mul (count c .1) less)
 
-returns-3 : tie.Need-returns-3
+returns-2 : tie.Need-returns-2
 unfolding is-packed
-returns-3 c = rw (sym (c .before .leaf-count .ensures) ∙ not-false _ (c .if2 .left))
+returns-2 c = rw (sym (c .before .leaf-count .ensures) ∙ not-false _ (c .if1 .left))
 
 pub is-packed-spec : {M : Type 1} → statement M
-is-packed-spec = tie.close (tie.spec returns leaf-count-requires returns-2 sub-result mul-result returns-3)
+is-packed-spec = tie.close (tie.spec leaf-count-requires returns sub-result mul-result returns-2)

@@ -1,48 +1,66 @@
--- `reconstruct::own_rebuild::partner` meets its contract: without the bytes the table that is meant is the same.
-use mathlib.Core.Path.{_≡_, sym, _∙_}
+-- `reconstruct::own_rebuild::partner` meets its contract. The loop's invariant: no label passed may be merged with `a`.
+use Prim.Native.Nat.{ℕ, _-_, _≤_, _<_}
+use native.Mathlib.Omega.{arith}
+use borrow.Author.Count.{below-more}
 use borrow.Author.Needs.{needs}
+use Rattle.base.proofs.Bools.{never}
 use Rattle.reconstruct.specs.Lent.{lent-table}
-use Rattle.reconstruct.proofs.Lent.{as-cells, no-bytes}
+use Rattle.reconstruct.specs.Fits.{Joins}
 use Rattle.reconstruct.proofs.own_rebuild.partner.Statement.{statement}
 use Rattle.reconstruct.proofs.own_rebuild.partner.Tie as tie
 
-is-packed-requires : tie.Need-is-packed-requires
-is-packed-requires c κs = search needs
+abbrev Inv-loop : tie.InvT-loop
+Inv-loop n table packed label m sizes p a b₀ b =
+    (a < b) × (b ≤ n) × ((i : ℕ) → i < b → a < i → Joins n (lent-table n table packed) label m sizes a i → ⊥)
 
-first-partner-requires : tie.Need-first-partner-requires
-first-partner-requires c κs = search needs
+abbrev μ-loop : tie.MeasureT-loop
+μ-loop n table packed label m sizes p a b₀ b = n - b
 
-returns : tie.Need-returns
-returns c = c .first-partner .ensures
+add-b : tie.Need-add-b Inv-loop μ-loop
+add-b c = search needs
 
-slice-aggregate-first-partner : tie.Need-slice-aggregate-first-partner
-slice-aggregate-first-partner c = search needs
+loop-holds : tie.Need-loop-holds Inv-loop μ-loop
+loop-holds c = (omega arith, omega arith, λ i l al. absurd (omega arith))
 
--- the cells are meant, with and without the bytes
-cells-meant :
-    (c : tie.Else1)
-    → (let a = c .before .before .before .before .args in
-    lent-table (a .n) (a .table .now) (a .packed .now) ≡ a .table .now)
-cells-meant c = as-cells _ _ _ (sym (c .before .is-packed .ensures) ∙ c .if1 .left)
+joins-requires : tie.Need-joins-requires Inv-loop μ-loop
+joins-requires c κs = search needs
 
-first-partner-requires-2 : tie.Need-first-partner-requires-2
-first-partner-requires-2 c κs =
-    let s = c .before .before .before .before .before in
-    rw (no-bytes (s .args .n) (s .args .table .now)) (rw (cells-meant (c .before)) at (s .pre))
+returns : tie.Need-returns Inv-loop μ-loop
+returns c = record {
+  within = omega arith;
+  hit = λ l. (omega arith, c .before .joins .ensures .0 (c .if1 .taken));
+  miss = λ l. absurd (omega arith);
+}
 
-returns-2 : tie.Need-returns-2
-returns-2 c =
-    let s = c .before .before .before .before .before .before in
-    let found = rw (no-bytes (s .args .n) (s .args .table .now)) at (c .first-partner2 .ensures) in
-    rw (cells-meant (c .before .before)) found
+add-b-2 : tie.Need-add-b-2 Inv-loop μ-loop
+add-b-2 c = search needs
+
+loop-less : tie.Need-loop-less Inv-loop μ-loop
+loop-less c = search needs
+
+loop-again : tie.Need-loop-again Inv-loop μ-loop
+loop-again c =
+    let seen = c .before .before .before .loop .inv .2 in
+    (omega arith, omega arith, below-more _ _ seen (λ l q. never (c .before .joins .ensures .1 q) (c .if1 .left)))
+
+returns-2 : tie.Need-returns-2 Inv-loop μ-loop
+returns-2 c = record {
+  within = omega arith;
+  hit = λ l. absurd (omega arith);
+  miss = λ l b ab bn q. c .before .loop .inv .2 b (omega arith) ab q;
+}
 
 pub partner-spec : {M : Type 1} → statement M
 partner-spec =
     tie.close
     (tie.spec
-    is-packed-requires
-    first-partner-requires
+    Inv-loop
+    μ-loop
+    add-b
+    loop-holds
+    joins-requires
     returns
-    slice-aggregate-first-partner
-    first-partner-requires-2
+    add-b-2
+    loop-less
+    loop-again
     returns-2)
