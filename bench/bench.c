@@ -326,25 +326,27 @@ static double least(double x, double y) { return x < y ? x : y; }
 /* The least of three times of our rebuild. */
 static double rebuild_time(void) { return least(timed(rebuild, 1), least(timed(rebuild, 1), timed(rebuild, 1))); }
 
-/* The slowest table with one cell, and its mirror, one too large, over the table itself. A time that would be the
-   slowest is taken again, so that it is not a pause of the machine. */
+/* The slowest table with one cell, and its mirror, one too large, over the table itself. */
 static double damaged_ratio(void)
 {
+    static double times[MOST * MOST];
     double worst = 0, accepted = rebuild_time();
+    for (int pass = 0; pass < 4; pass++) /* far apart, so that what else the machine does falls on no table each time */
+        for (size_t i = 0; i < n; i++)
+            for (size_t j = i + 1; j < n; j++) {
+                cells[i * n + j]++;
+                cells[j * n + i]++;
+                double t = rebuild_time(), *kept = &times[i * n + j];
+                *kept = pass == 0 ? t : least(*kept, t);
+                if (quartree_rebuild(n, cells, n * n, standard, 2 * (n - 2)) != 6)
+                    fail("a damaged table was accepted");
+                cells[i * n + j]--;
+                cells[j * n + i]--;
+            }
     for (size_t i = 0; i < n; i++)
-        for (size_t j = i + 1; j < n; j++) {
-            cells[i * n + j]++;
-            cells[j * n + i]++;
-            double t = rebuild_time();
-            for (int again = 0; again < 5 && t > worst; again++)
-                t = least(t, rebuild_time());
-            if (t > worst)
-                worst = t;
-            if (quartree_rebuild(n, cells, n * n, standard, 2 * (n - 2)) != 6)
-                fail("a damaged table was accepted");
-            cells[i * n + j]--;
-            cells[j * n + i]--;
-        }
+        for (size_t j = i + 1; j < n; j++)
+            if (times[i * n + j] > worst)
+                worst = times[i * n + j];
     return worst / least(accepted, rebuild_time());
 }
 

@@ -69,7 +69,7 @@
 #define QUARTREE_POLL_LEAST_LEAVES 4
 #define QUARTREE_POLL_MOST_LEAVES 32
 #define QUARTREE_SHEET_MOST_BYTES 21512
-#define QUARTREE_STACK_BYTES 131072 /* of stack, enough for every call */
+#define QUARTREE_STACK_BYTES 32768 /* of stack, enough for every call */
 
 #define QUARTREE_LISTING_NUMBERS(n) (2 * ((size_t)(n) - 2)) /* uint16_t of a listing: two a row */
 #define QUARTREE_LISTING_BYTES(n) (4 * ((size_t)(n) - 2))   /* bytes of a listing, for quartree_rebuild_sheet */
