@@ -422,7 +422,7 @@ static void print_rebuilds(void)
 static void draw(const char *path, double grown[CALLS][COUNTS])
 {
     static const char *const colours[] = {"#1b6ca8", "#c0392b", "#2e8b57", "#8e44ad", "#d68910", "#34495e"};
-    static const int drawn[] = {1, 4, 6, 7, 9, 11}; /* standardise, table, both rebuilds, and of a sheet */
+    static const int drawn[] = {1, 4, 6, 7, 10, 12}; /* standardise, table, both rebuilds, and of a sheet */
     FILE *f = fopen(path, "w");
     if (f == NULL)
         fail("the plot cannot be written");
