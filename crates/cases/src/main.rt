@@ -3,6 +3,7 @@ use refusals::Outcome;
 use refusals::Refusal;
 ghost use mathlib.Core.Path.{_≡_};
 ghost use lib.ListN.{length};
+ghost use Rattle.limits.specs.Limits.{most-numbers};
 
 // What an operation answered.
 fn say(answer: Outcome) {
@@ -123,28 +124,33 @@ fn guide_five(merges: &[u16; 8]) {
     say_listing(&listing);
 }
 
-// A tree of 128 leaves: the node of each row takes the leaf that comes next.
-fn comb() -> [u16; 252]
-    ensures { λ r. ⌜ length r ≡ 252 ⌝ }
+// The rows of the longest listing and its last leaf, as numbers of a listing's width.
+const ROWS: u16 = limits::MOST_ROWS as u16;
+
+const LAST_LEAF: u16 = ROWS + 1;
+
+// A tree of the most leaves: the node of each row takes the leaf that comes next.
+fn comb() -> [u16; limits::MOST_NUMBERS]
+    ensures { λ r. ⌜ length r ≡ most-numbers ⌝ }
 {
-    let mut listing = [0u16; 252];
+    let mut listing = [0u16; limits::MOST_NUMBERS];
     listing[0] = 1;
     listing[1] = 2;
     let mut k: u16 = 1;
-    while k < 126 {
+    while k < ROWS {
         let at = 2 * (k as usize);
         listing[at] = k + 2;
-        listing[at + 1] = k + 127;
+        listing[at + 1] = k + LAST_LEAF;
         k += 1;
     }
     listing
 }
 
-// Check, table and rebuild, with this leaf count, and a listing and a table that are right for 128.
+// Check, table and rebuild, with this leaf count, and a listing and a table that are right for the most leaves.
 fn leaf_count(n: usize) {
     let listing = comb();
-    let mut cells = [0u32; 16384];
-    let mut rebuilt = [0u16; 252];
+    let mut cells = [0u32; limits::MOST_CELLS];
+    let mut rebuilt = [0u16; limits::MOST_NUMBERS];
     say(listings::check(n, &listing));
     say(tree_tables::table(n, &listing, &mut cells));
     say(reconstruct::rebuild(n, &cells, &mut rebuilt));
@@ -276,10 +282,10 @@ fn main() {
     guide_five(&[0, 2, 3, 4, 0, 1, 0, 3]);
     io::write_all(1, b"check, table and rebuild, 2 leaves:\n");
     leaf_count(2);
-    io::write_all(1, b"check, table and rebuild, 129 leaves:\n");
-    leaf_count(129);
-    io::write_all(1, b"check, table and rebuild, 128 leaves:\n");
-    leaf_count(128);
+    io::write_all(1, b"check, table and rebuild, one leaf too many:\n");
+    leaf_count(limits::MOST_LEAVES + 1);
+    io::write_all(1, b"check, table and rebuild, the most leaves:\n");
+    leaf_count(limits::MOST_LEAVES);
     polls_of_one();
     sheet_of_five();
     name_lengths();

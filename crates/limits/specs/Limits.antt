@@ -1,9 +1,51 @@
--- How many leaves a tree has (01, "Trees and listings"): n from 3 to 128. Definitions and laws name the upper limit by
--- `most-leaves`; where code writes 128 or a size made from it, the proofs hold it against this number.
-use Prim.Native.Nat.{ℕ, _≤_}
+-- How many leaves a tree has (01, "Trees and listings"): n from 3 to 128. The upper limit is named here and only here,
+-- and beside it the sizes that follow from it. The code has the same names, in src/lib.rt: a size that differed there
+-- would leave functions unproved.
+use Prim.Native.Nat.{ℕ, _+_, _-_, _*_, _/_, _≤_}
 
 abbrev pub most-leaves : ℕ
 most-leaves = 128
 
 abbrev pub IsLeafCount : ℕ → Type 0
 IsLeafCount n = (3 ≤ n) × (n ≤ most-leaves)
+
+-- the sizes that a set of leaves may have are 0 to the most leaves: so many
+abbrev pub leaf-counts : ℕ
+leaf-counts = most-leaves + 1
+
+-- an array by number has a place for each leaf and each node of a listing: they are 2n − 2, so this is two more than due
+abbrev pub most-nodes : ℕ
+most-nodes = 2 * most-leaves
+
+-- the rows of the longest listing, and its numbers
+abbrev pub most-rows : ℕ
+most-rows = most-leaves - 2
+
+abbrev pub most-numbers : ℕ
+most-numbers = 2 * most-rows
+
+-- the cells of the largest table
+abbrev pub most-cells : ℕ
+most-cells = most-leaves * most-leaves
+
+-- the pairs of the most leaves, P(n), which no count and no sum along a path exceeds
+abbrev pub most-pairs : ℕ
+most-pairs = most-leaves * (most-leaves - 1) / 2
+
+-- the largest cell that a tree can have, P(n − 2)
+abbrev pub largest-cell : ℕ
+largest-cell = most-rows * (most-rows - 1) / 2
+
+-- the bytes of a leaf set: a bit for each of the most leaves, in whole words of 64
+abbrev pub set-bytes : ℕ
+set-bytes = 8 * ((most-leaves + 63) / 64)
+
+-- a poll has 4 to 32 leaves, and so many cells at most
+abbrev pub fewest-polled : ℕ
+fewest-polled = 4
+
+abbrev pub most-polled : ℕ
+most-polled = 32
+
+abbrev pub most-poll-cells : ℕ
+most-poll-cells = most-polled * most-polled

@@ -14,6 +14,7 @@ use lib.ListN.{length, getD, set, drop, replicate, length-set, length-replicate,
 use lib.Seq.{drop-cons, getD-set-same, getD-set-other}
 use Rattle.base.specs.Lists.{any-in}
 use Rattle.base.proofs.Bools.{is-false, eqb-same}
+use Rattle.limits.specs.Limits.{most-nodes}
 use Rattle.refusals.specs.declared.Refusal.{Refusal}
 use Rattle.refusals.specs.declared.Refusal.the-variants.{Child, NamedBefore}
 use Rattle.trees.specs.Listings.{child, rules-refusal-from, rules-refusal}
@@ -37,16 +38,16 @@ judge-start n l = refl
 pub record PassedTo (n : ℕ) (l : List ℕ) (p : ℕ) (named : List Bool) : Type 0 where
   pub within : p ≤ length l
   pub same : rules-refusal-at n l p ≡ rules-refusal n l
-  pub long : length named ≡ 256
-  pub marks : (k : ℕ) → k < 256 → getD named k false ≡ any-in (eqb k) (earlier l p)
+  pub long : length named ≡ most-nodes
+  pub marks : (k : ℕ) → k < most-nodes → getD named k false ≡ any-in (eqb k) (earlier l p)
 
-pub none-judged : (n : ℕ) (l : List ℕ) → PassedTo n l 0 (replicate 256 false)
+pub none-judged : (n : ℕ) (l : List ℕ) → PassedTo n l 0 (replicate most-nodes false)
 unfolding any-in earlier
 none-judged n l = record {
   within = omega arith;
   same = judge-start n l;
-  long = length-replicate 256 false;
-  marks = λ k h. getD-replicate 256 k false false h;
+  long = length-replicate most-nodes false;
+  marks = λ k h. getD-replicate most-nodes k false false h;
 }
 
 module _ {n : ℕ} {l : List ℕ} {p : ℕ} {named : List Bool} (w : PassedTo n l p named) where
@@ -64,7 +65,7 @@ module _ {n : ℕ} {l : List ℕ} {p : ℕ} {named : List Bool} (w : PassedTo n 
         off : child n (p / 2) c ≡ false
         off = is-false (child n (p / 2) c) (λ t. let r = child-in n (p / 2) c z t in omega (arith, h (r .0), r .1))
 
-    module _ (low : 0 < c) (high : c < n + p / 2) (small : c < 256) where
+    module _ (low : 0 < c) (high : c < n + p / 2) (small : c < most-nodes) where
       pub named-before : getD named c false ≡ true → rules-refusal n l ≡ some (NamedBefore p)
       named-before m =
           sym this ∙ (unfold rules-refusal-from in rw (child-is n (p / 2) c low high, sym (w .marks c small) ∙ m))

@@ -10,7 +10,7 @@ use native.Mathlib.Omega.{arith}
 use Rattle.base.specs.Numbers.{count-below}
 use Rattle.base.proofs.Bools.{bool?}
 use Rattle.base.proofs.Counts.{count-suc, count-imp, count-ext, count-or, count-false}
-use Rattle.limits.specs.Limits.{most-leaves}
+use Rattle.limits.specs.Limits.{most-leaves, most-pairs, largest-cell}
 use Rattle.pair_counts.specs.Pairs.{P, pairs-below}
 
 -- P(0) = P(1) = 0
@@ -68,15 +68,18 @@ P-tight x y h = omega (arith, P-add x y)
 pub P-mono : (x y : ℕ) → x ≤ y → P x ≤ P y
 P-mono x y h = let e : y ≡ x + (y - x) = omega arith in rw e (omega (arith, P-le x (y - x)))
 
--- the largest cell that a tree can have: P(n − 2) at the largest n
-pub largest : P (most-leaves - 2) ≡ 7875
+-- the largest cell that a tree can have is P(n − 2) at the largest n, and the most pairs of leaves are P(n)
+pub P-largest : P (most-leaves - 2) ≡ largest-cell
 unfolding P
-largest = refl
+P-largest = refl
 
--- and the most pairs of leaves
-pub most-pairs : P most-leaves ≡ 8128
+pub P-most : P most-leaves ≡ most-pairs
 unfolding P
-most-pairs = refl
+P-most = refl
+
+-- the scope's number
+largest-is : largest-cell ≡ 7875
+largest-is = refl
 
 pub pairs-suc : (n : ℕ) (f : ℕ → ℕ → Bool) → pairs-below (suc n) f ≡ pairs-below n f + count-below n (λ p. f p n)
 unfolding pairs-below

@@ -4,8 +4,8 @@ ghost use Rattle.base.specs.Lists.{tab};
 ghost use Rattle.limits.specs.Limits.{most-leaves};
 ghost use Rattle.pair_counts.specs.Pairs.{P};
 
-// P(k) for every size k from 0 to 128.
-const PAIRS: [u32; 129] = [
+// P(k) for every size k from 0 to the most leaves.
+const PAIRS: [u32; limits::LEAF_COUNTS] = [
     0,
     0,
     1,
@@ -138,7 +138,7 @@ const PAIRS: [u32; 129] = [
 ];
 
 // The pair counts, for a caller to keep in a local of its own: entry k is P(k).
-pub fn pair_counts() -> [u32; 129]
+pub fn pair_counts() -> [u32; limits::LEAF_COUNTS]
     ensures { λ r. ⌜ r ≡ tab (most-leaves + 1) P ⌝ }
 {
     PAIRS

@@ -11,7 +11,8 @@ use Rattle.refusals.proofs.Causes.{arises-unless}
 use Rattle.listings.specs.Sizes.{length-refusal, room-refusal}
 use Rattle.polls.specs.declared.Record.{Record}
 use Rattle.polls.specs.declared.judging.Quartet.{Quartet}
-use Rattle.polls.specs.Records.{fewest-polled, most-polled, last-code, records-due, is-of, record-leaves-refusal}
+use Rattle.limits.specs.Limits.{fewest-polled, most-polled}
+use Rattle.polls.specs.Records.{last-code, records-due, is-of, record-leaves-refusal}
 use Rattle.polls.specs.Records.{record-code-refusal}
 use Rattle.polls.specs.Records.{record-refusal, records-refusal-from, records-refusal}
 use Rattle.polls.specs.Operations.{poll-count-refusal, poll-sizes-refusal, poll-refusal, poll-answer}

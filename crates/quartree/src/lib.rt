@@ -109,7 +109,7 @@ pub extern "C" fn quartree_standardise(n: usize, listing: &[u16], out: &mut [u16
     reply_of(listings::standardise(n, listing, out))
 }
 
-// The splits of the tree that a listing stands for, sixteen bytes each: 1, 2, 3, 7, 8.
+// The splits of the tree that a listing stands for, as leaf sets: 1, 2, 3, 7, 8.
 #[no_mangle]
 pub extern "C" fn quartree_splits(n: usize, listing: &[u16], out: &mut [u8]) -> u64
     ensures answer { λ r. ⌜ r ≡ reply (splits-answer n (now (listing .entry)) (length (now (out .entry)))) ⌝ }

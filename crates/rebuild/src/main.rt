@@ -5,10 +5,10 @@ ghost use Prim.Native.Nat.{_≤_};
 ghost use Rattle.limits.specs.Limits.{most-leaves};
 
 // One byte more than the longest sheet has, so that a longer input is refused and not cut.
-const INPUT: usize = 21513;
+const INPUT: usize = sheets::LONGEST_SHEET + 1;
 
 // The numbers of the longest listing.
-const LISTING: usize = 252;
+const LISTING: usize = limits::MOST_NUMBERS;
 
 fn print_number(number: usize) {
     io::print_decimal(1, number as u64);

@@ -8,6 +8,7 @@ use lib.ListN.{length, getD, take, drop, length-append}
 use lib.Seq.{take-suc, append-snoc, take-append-seam}
 use Rattle.base.specs.Lists.{tab, filled}
 use Rattle.base.proofs.Lists.{length-flat, flat-more}
+use Rattle.limits.specs.Limits.{most-numbers}
 use Rattle.refusals.specs.declared.Refusal.{Refusal}
 use Rattle.refusals.specs.declared.Outcome.the-variants.{Done, Refused}
 use Rattle.refusals.specs.Refusals.{Answer, accepted, refused, outcome, written}
@@ -81,12 +82,12 @@ front-bytes l cells out =
       length-flat 2 (low-first 2) (length-low 2) l,
     )
 
--- A sheet that is accepted with its room for bytes. The numbers have room in 252 cells.
+-- A sheet that is accepted with its room for bytes. The numbers have room in most-numbers cells.
 module _ (S : List ℕ) (room : ℕ) (h : sheet-refusal S (4 * (leaves-of S - 2)) room ≡ none) where
-  pub fits : sheet-refusal S (2 * (leaves-of S - 2)) 252 ≡ none
+  pub fits : sheet-refusal S (2 * (leaves-of S - 2)) most-numbers ≡ none
   fits =
       let due = 4 * (leaves-of S - 2) in
-      other-room S due room h (2 * (leaves-of S - 2)) 252 (omega (arith, accepted-here S due room h .count))
+      other-room S due room h (2 * (leaves-of S - 2)) most-numbers (omega (arith, accepted-here S due room h .count))
 
   bytes-of-tree : sheet-bytes-answer S room ≡ in-bytes (sheet-tree S)
   unfolding sheet-bytes-answer
@@ -114,6 +115,6 @@ module _ (S : List ℕ) (room : ℕ) (h : sheet-refusal S (4 * (leaves-of S - 2)
       go (accepted l) e =
           let n = leaves-of S in
           let t = table-with n (cells-of S) in
-          let kept = rebuilt-is-standard n t 252 l (rebuilt-alone S 252 fits ∙ e) .0 in
+          let kept = rebuilt-is-standard n t most-numbers l (rebuilt-alone S most-numbers fits ∙ e) .0 in
           let many : 4 * (n - 2) ≡ 2 * length l = omega (arith, kept .numbers) in
           rw (bytes-of-tree, e, many) (front-bytes l cells out)

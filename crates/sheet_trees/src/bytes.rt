@@ -3,6 +3,7 @@ ghost use mathlib.Core.Path.{_≡_};
 ghost use Prim.Native.Nat.{_/_, _%_, _<_, _≤_};
 ghost use lib.ListN.{length};
 ghost use Rattle.base.specs.Lists.{filled};
+ghost use Rattle.limits.specs.Limits.{most-numbers};
 ghost use Rattle.sheet_trees.specs.Steps.{byte-rule};
 
 fn low_byte(v: u16) -> u8
@@ -18,8 +19,8 @@ fn high_byte(v: u16) -> u8
 }
 
 // Byte k of the numbers.
-fn byte_at(numbers: &[u16; 252], k: usize) -> u8
-    requires { ⌜ k < 504 ⌝ }
+fn byte_at(numbers: &[u16; limits::MOST_NUMBERS], k: usize) -> u8
+    requires { ⌜ k < 2 * most-numbers ⌝ }
     ensures { λ r. ⌜ r ≡ byte-rule (now (numbers .entry)) k ⌝ }
 {
     let v = numbers[k / 2];
@@ -30,8 +31,8 @@ fn byte_at(numbers: &[u16; 252], k: usize) -> u8
 }
 
 // Writes so many bytes of the numbers at the front of `out`.
-pub(crate) fn write_bytes(many: usize, numbers: &[u16; 252], out: &mut [u8])
-    requires { ⌜ (many ≤ 504) × (many ≤ length (now out)) ⌝ }
+pub(crate) fn write_bytes(many: usize, numbers: &[u16; limits::MOST_NUMBERS], out: &mut [u8])
+    requires { ⌜ (many ≤ 2 * most-numbers) × (many ≤ length (now out)) ⌝ }
     ensures { λ _. ⌜ now (out .exit) ≡ filled many (byte-rule (now (numbers .entry))) (now (out .entry)) ⌝ }
 {
     let mut k: usize = 0;

@@ -66,7 +66,7 @@ pub fn listing_bytes_of(sheet: &[u8], out: &mut [u8]) -> Outcome
     let Outcome::Done = judged else {
         return judged;
     };
-    let mut listing = [0u16; 252];
+    let mut listing = [0u16; limits::MOST_NUMBERS];
     let answer = tree_of(sheet, &mut listing);
     let Outcome::Done = answer else {
         return answer;

@@ -16,9 +16,9 @@ use lib.Seq.{getD-set-same, getD-set-other}
 use Rattle.base.specs.Numbers.{indicator, sum-below}
 use Rattle.base.proofs.Bools.{bool?}
 use Rattle.base.proofs.Lists.{getD-tab}
-use Rattle.limits.specs.Limits.{most-leaves}
+use Rattle.limits.specs.Limits.{most-leaves, set-bytes}
 use Rattle.trees.specs.Trees.{leaf, LeafSet, leaves}
-use Rattle.trees.specs.Splits.{set-bytes, byte-of, bytes-of}
+use Rattle.trees.specs.Splits.{byte-of, bytes-of}
 use Rattle.listings.proofs.Entries.{Known, known-whole}
 
 -- the number whose lowest m bits are f's

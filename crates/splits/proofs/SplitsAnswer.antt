@@ -6,11 +6,10 @@ use Prim.Native.Nat.{ℕ, _-_, _*_}
 use native.Mathlib.Omega.{arith}
 use lib.ListN.{length, take}
 use lib.Seq.{take-at}
-use Rattle.limits.specs.Limits.{IsLeafCount}
+use Rattle.limits.specs.Limits.{IsLeafCount, most-numbers, set-bytes}
 use Rattle.refusals.specs.Refusals.{written}
 use Rattle.refusals.proofs.Answers.{written-done}
 use Rattle.trees.specs.Listings.{KeepsRules, tree-of, standard}
-use Rattle.trees.specs.Splits.{set-bytes}
 use Rattle.trees.proofs.Splits.{split-bytes-many}
 use Rattle.listings.specs.Operations.{listing-refusal, standardise-answer}
 use Rattle.listings.proofs.ListingRefusal.{rules-left}
@@ -29,7 +28,7 @@ splits-written n l out h =
 
 -- the rows lent for the standard listing: there is room for it, and then it stands at their front
 pub rows-lent :
-    (n : ℕ) (l out : List ℕ) → IsLeafCount n → KeepsRules n l → length out ≡ 252
+    (n : ℕ) (l out : List ℕ) → IsLeafCount n → KeepsRules n l → length out ≡ most-numbers
     → take (2 * (n - 2)) (written (standardise-answer n l (length out)) out) ≡ standard n (tree-of n l)
 rows-lent n l out c k e =
     rw (standard-written n l out room) (take-at (standard n (tree-of n l)) _ (2 * (n - 2)) (standard-length n l c k))

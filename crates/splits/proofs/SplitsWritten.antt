@@ -8,9 +8,10 @@ use lib.ListN.{length, take, drop}
 use lib.Seq.{take-at, drop-append-add, drop-drop}
 use Rattle.base.specs.Lists.{tab}
 use Rattle.base.proofs.Lists.{length-tab, length-flat, flat-more}
+use Rattle.limits.specs.Limits.{set-bytes}
 use Rattle.trees.specs.Trees.{Tree, LeafSet, leaves}
 use Rattle.trees.specs.Listings.{subtree-at, standard}
-use Rattle.trees.specs.Splits.{splits, set-bytes, byte-of, bytes-of, split-bytes}
+use Rattle.trees.specs.Splits.{splits, byte-of, bytes-of, split-bytes}
 use Rattle.splits.specs.Splits.{set-of-subtree, node-sets}
 
 -- the nodes of the standard listing but the last: the splits of the tree

@@ -9,7 +9,7 @@ ghost use Rattle.splits.specs.Operations.{splits-answer};
 mod sets;
 mod writing;
 
-// Writes the splits of the tree that a listing stands for at the front of `out`, sixteen bytes each.
+// Writes the splits of the tree that a listing stands for at the front of `out`, as leaf sets.
 pub fn splits(n: usize, listing: &[u16], out: &mut [u8]) -> Outcome
     ensures answer { λ r. ⌜ r ≡ outcome (splits-answer n (now (listing .entry)) (length (now (out .entry)))) ⌝ }
     ensures buffer { λ r. ⌜ now (out .exit)
@@ -18,11 +18,11 @@ pub fn splits(n: usize, listing: &[u16], out: &mut [u8]) -> Outcome
     if !listings::leaf_count(n) {
         return Outcome::Refused(Refusal::LeafCount);
     }
-    let judged = listings::judge(n, listing, 16 * (n - 3), out.len());
+    let judged = listings::judge(n, listing, limits::SET_BYTES * (n - 3), out.len());
     let Outcome::Done = judged else {
         return judged;
     };
-    let mut rows = [0u16; 252];
+    let mut rows = [0u16; limits::MOST_NUMBERS];
     listings::standardise(n, listing, &mut rows);
     let end = 2 * (n - 2);
     writing::write_splits(n, &rows[..end], out);

@@ -11,7 +11,7 @@ use lib.IntN.{ℤ, pos, negsuc, negℤ, _+ℤ_, _-ℤ_, +ℤ-invr, -ℤ-+ℤ-can
 use lib.Signed.{mag, leZ, _≤ℤ_, leZ-yes}
 use lib.ListN.{getD}
 use Rattle.base.proofs.Lists.{getD-tab, row-of, column-of, place}
-use Rattle.limits.specs.Limits.{IsLeafCount}
+use Rattle.limits.specs.Limits.{IsLeafCount, largest-cell}
 use Rattle.trees.specs.Trees.{Tree}
 use Rattle.trees.specs.Quartets.{quartets}
 use Rattle.trees.specs.Tables.{cell, IsTable, HasTable}
@@ -34,7 +34,7 @@ gap-is n t T i j li lj =
     ∙ rw (row-of n i j lj, column-of n i j lj)
 
 -- the difference of two numbers: its ends, and that 0 is that of equal ones
-not-less : (x y : ℕ) → y ≤ 7875 → negℤ (pos 7875) ≤ℤ (pos x -ℤ pos y)
+not-less : (x y : ℕ) → y ≤ largest-cell → negℤ (pos largest-cell) ≤ℤ (pos x -ℤ pos y)
 not-less x zero l = leZ-yes tt
 not-less x (suc y) l = leZ-yes (either (ltb x (suc y)) (suc y - suc x) (x - suc y) (omega arith))
   where
@@ -53,7 +53,7 @@ not-more x (suc y) l = leZ-yes (either (ltb x (suc y)) (suc y - suc x) (x - suc 
 -- from −7,875 to 4,294,967,295
 pub gap-ends :
     (n : ℕ) → IsLeafCount n → (t : List ℕ) (T : Tree) (i j : ℕ) → i < n → j < n → cell n t i j ≤ 4294967295
-    → (negℤ (pos 7875) ≤ℤ gap n t T i j) × (gap n t T i j ≤ℤ pos 4294967295)
+    → (negℤ (pos largest-cell) ≤ℤ gap n t T i j) × (gap n t T i j ≤ℤ pos 4294967295)
 gap-ends n c t T i j li lj small =
     let count : ℕ = quartets n T i j in
     rw (gap-is n t T i j li lj)

@@ -15,7 +15,7 @@ use Rattle.base.specs.Lists.{any-in}
 use Rattle.base.proofs.Bools.{never, or-neither, eqb-same}
 use Rattle.limits.specs.Limits.{most-leaves, IsLeafCount}
 use Rattle.pair_counts.specs.Pairs.{P}
-use Rattle.pair_counts.proofs.Pairs.{P-one, P-le, P-mono, most-pairs}
+use Rattle.pair_counts.proofs.Pairs.{P-one, P-le, P-mono, P-most}
 use Rattle.trees.specs.Trees.{Tree, size}
 use Rattle.trees.specs.Listings.{rules-refusal-from, rules-refusal, KeepsRules, subtree-at}
 use Rattle.trees.proofs.Trees.{size-node}
@@ -92,7 +92,7 @@ module _ (xs : List ℕ) (a b v w : ℕ) where
 
 -- no number of pairs is too large
 pub pairs-small : (k : ℕ) → k ≤ most-leaves → P k ≤ most-sum
-pairs-small k l = omega (arith, P-mono k most-leaves l, most-pairs)
+pairs-small k l = omega (arith, P-mono k most-leaves l, P-most)
 
 -- A row whose children a and b are read, and which is next.
 pub record Next (n : ℕ) (l sizes counts places aboves befores : List ℕ) (c a b : ℕ) : Type 0 where

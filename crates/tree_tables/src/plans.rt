@@ -13,7 +13,7 @@ ghost use Rattle.tree_tables.specs.Orders.{Placed};
 ghost use Rattle.tree_tables.specs.Orders.{Plan};
 
 // The most leaves, and the most numbers of a listing.
-pub(crate) const LEAVES: usize = 128;
+pub(crate) const LEAVES: usize = limits::MOST_LEAVES;
 
 pub(crate) const NUMBERS: usize = 2 * LEAVES;
 // More than what branches off above any two leaves: depths are counted down from it.

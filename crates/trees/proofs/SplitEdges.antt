@@ -13,11 +13,11 @@ use lib.Seq.{getD-append-add}
 use Rattle.base.specs.Lists.{tab, any-in, all-in}
 use Rattle.base.proofs.Bools.{never, is-false, or-left, or-right}
 use Rattle.base.proofs.Lists.{length-tab, getD-tab, any-append, any-tab-found, every-append, every-tab, flat-part}
-use Rattle.limits.specs.Limits.{most-leaves, IsLeafCount}
+use Rattle.limits.specs.Limits.{most-leaves, IsLeafCount, set-bytes}
 use Rattle.trees.specs.Trees.{Tree, leaf, node, LeafSet, leaves, IsTree, least, ordered}
 use Rattle.trees.specs.Listings.{subtree-at, standard}
 use Rattle.trees.specs.Edges.{edges, one-edge, is-edge}
-use Rattle.trees.specs.Splits.{splits, set-bytes, bytes-of, set-of, split-bytes}
+use Rattle.trees.specs.Splits.{splits, bytes-of, set-of, split-bytes}
 use Rattle.trees.proofs.Trees.{leaves-node, leaf-has, leaf-eq, least-in, least-differ, Distinct, Drawn, OnLeaves}
 use Rattle.trees.proofs.Trees.{tree-on, ordered-leaves, ordered-drawn}
 use Rattle.trees.proofs.Subtrees.{In, in-whole, leaf-in, sub-of, every-edge, Same, same-refl, one-edge-is}
@@ -266,7 +266,7 @@ module _ (n : ℕ) (count : IsLeafCount n) (T : Tree) (tree : IsTree n T) where
     no-two-same = no-two;
   }
 
-  -- The bytes that are written: sixteen for each split, and the bits of leaves from n on are 0.
+  -- The bytes that are written: a set for each split, and the bits of leaves from n on are 0.
   pub no-bits-beyond :
       (k : ℕ) → k < n - 3 → (x : ℕ) → n ≤ x → x < most-leaves
       → set-of (take set-bytes (drop (set-bytes * k) (split-bytes n T))) x ≡ false

@@ -3,14 +3,15 @@ use mathlib.Core.Path.{_≡_}
 use Prim.Native.Nat.{_-_, _≤_}
 use lib.ListN.{length}
 use borrow.Author.Needs.{needs}
+use Rattle.limits.specs.Limits.{most-rows, most-numbers}
 use Rattle.cases.proofs.comb.Statement.{statement}
 use Rattle.cases.proofs.comb.Tie as tie
 
 abbrev Inv-loop : tie.InvT-loop
-Inv-loop listing₀ k₀ listing k = (k ≤ 126) × (length listing ≡ 252)
+Inv-loop listing₀ k₀ listing k = (k ≤ most-rows) × (length listing ≡ most-numbers)
 
 abbrev μ-loop : tie.MeasureT-loop
-μ-loop listing₀ k₀ listing k = 126 - k
+μ-loop listing₀ k₀ listing k = most-rows - k
 
 array-write-listing : tie.Need-array-write-listing Inv-loop μ-loop
 array-write-listing c = search needs

@@ -6,7 +6,7 @@ use native.Mathlib.Omega.{arith}
 use borrow.Author.Needs.{needs}
 use borrow.Author.Tests.{not-true, not-false}
 use Prim.Native.Nat.{_-_, _≤_}
-use Rattle.limits.specs.Limits.{IsLeafCount}
+use Rattle.limits.specs.Limits.{IsLeafCount, most-rows}
 use Rattle.refusals.specs.Refusals.{outcome-of}
 use Rattle.listings.proofs.ListingRefusal.{is-leaf-count}
 use Rattle.sheet_trees.proofs.Listed.{count-decides}
@@ -37,7 +37,7 @@ sub-judge-sheet c = omega (arith, count c)
 
 mul-judge-sheet : tie.Need-mul-judge-sheet
 mul-judge-sheet c =
-    let rows : c .before .before .leaf-count-of .result - 2 ≤ 126 = omega (arith, count c) in
+    let rows : c .before .before .leaf-count-of .result - 2 ≤ most-rows = omega (arith, count c) in
     omega (arith, mul-le-mul (c .before .before .before .before .pre) rows)
 
 judge-sheet-requires-2 : tie.Need-judge-sheet-requires-2

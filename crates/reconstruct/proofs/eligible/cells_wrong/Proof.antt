@@ -5,7 +5,7 @@ use native.Mathlib.Omega.{arith}
 use borrow.Author.Needs.{needs}
 use Rattle.base.specs.Numbers.{count-below}
 use Rattle.base.proofs.Counts.{count-le}
-use Rattle.pair_counts.proofs.Pairs.{most-pairs}
+use Rattle.pair_counts.proofs.Pairs.{P-most}
 use Rattle.reconstruct.specs.Fits.{mismatch-in}
 use Rattle.reconstruct.proofs.Fits.{count-turn}
 use Rattle.reconstruct.proofs.eligible.cells_wrong.Statement.{statement}
@@ -43,7 +43,7 @@ element-copy-out-wrong-2 c = search needs
 add-wrong : tie.Need-add-wrong Inv-loop μ-loop
 add-wrong c =
     let l = c .before .before .before .before in
-    omega (arith, most-pairs, l .before .before .pre .2 (l .loop .y) (omega arith))
+    omega (arith, P-most, l .before .before .pre .2 (l .loop .y) (omega arith))
 
 wrong-requires : tie.Need-wrong-requires Inv-loop μ-loop
 wrong-requires c κs = search needs
