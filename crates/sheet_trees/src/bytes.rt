@@ -1,6 +1,6 @@
 // The numbers of a listing as bytes, low byte first.
 ghost use mathlib.Core.Path.{_≡_};
-ghost use Prim.Native.Nat.{_/_, _%_, _<_, _≤_};
+ghost use Prim.Native.Nat.{_*_, _/_, _%_, _<_, _≤_};
 ghost use lib.ListN.{length};
 ghost use Rattle.base.specs.Lists.{filled};
 ghost use Rattle.limits.specs.Limits.{most-numbers};
