@@ -2,6 +2,8 @@
 -- and beside it the sizes that follow from it. The code has the same names, in src/lib.rt: a size that differed there
 -- would leave functions unproved.
 use Prim.Native.Nat.{ℕ, _+_, _-_, _*_, _/_, _≤_}
+use Rattle.limits.specs.declared.Kind.{Kind}
+use Rattle.limits.specs.declared.Kind.the-variants.{Counts, Poll}
 
 abbrev pub most-leaves : ℕ
 most-leaves = 128
@@ -49,3 +51,15 @@ most-polled = 32
 
 abbrev pub most-poll-cells : ℕ
 most-poll-cells = most-polled * most-polled
+
+-- the fewest and the most leaves of a table of this kind, a tree's counts or a poll's
+abbrev pub fewest-of : Kind → ℕ
+fewest-of Counts = 3
+fewest-of Poll = fewest-polled
+
+abbrev pub most-of : Kind → ℕ
+most-of Counts = most-leaves
+most-of Poll = most-polled
+
+abbrev pub IsCountOf : Kind → ℕ → Type 0
+IsCountOf kind n = (fewest-of kind ≤ n) × (n ≤ most-of kind)

@@ -24,3 +24,9 @@ pub const FEWEST_POLLED: usize = 4;
 pub const MOST_POLLED: usize = 32;
 
 pub const MOST_POLL_CELLS: usize = MOST_POLLED * MOST_POLLED;
+
+// What a table counts: the quartets of a tree, or the records of a poll.
+pub enum Kind {
+    Counts,
+    Poll,
+}

@@ -181,11 +181,17 @@ module _ (n : ℕ) (l : List ℕ) (count : IsLeafCount n) (keeps : KeepsRules n 
       let end = zero-add (2 * (n - 2)) in
       w .rows ∙ rw (add-zero n) (sets-eq rows out 0 (omega (arith, standard-length)) ∙ rw (standard-length, end))
 
--- what standardising leaves in the buffer, where nothing is refused
+-- the buffer that standardising leaves, where nothing is refused: the listing, and what stood behind it
+pub standard-end :
+    (n : ℕ) (l out : List ℕ) {out′ : List ℕ} (due room : ℕ) → listing-refusal n l due room ≡ none
+    → out′ ≡ standard n (tree-of n l) ++ drop (2 * (n - 2)) out
+    → out′ ≡ standard n (tree-of n l) ++ drop (length (standard n (tree-of n l))) out
+standard-end n l out due room h e =
+    let a = accepted-listing n l due room h in
+    e ∙ rw (standard-length n l (a .count) (a .keeps))
+
 pub standard-written :
     (n : ℕ) (l out : List ℕ) → listing-refusal n l (2 * (n - 2)) (length out) ≡ none
     → written (standardise-answer n l (length out)) out ≡ standard n (tree-of n l) ++ drop (2 * (n - 2)) out
 unfolding standardise-answer
-standard-written n l out h =
-    let a = accepted-listing n l (2 * (n - 2)) (length out) h in
-    written-done _ _ out h ∙ rw (standard-length n l (a .count) (a .keeps))
+standard-written n l out h = written-done _ _ out h ∙ sym (standard-end n l out _ _ h refl)

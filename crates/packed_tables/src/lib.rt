@@ -8,7 +8,7 @@ mod reading;
 pub fn is_packed(n: usize, packed: &[u8]) -> bool
     ensures { λ r. ⌜ r ≡ is-packed n (now (packed .entry)) ⌝ }
 {
-    if !listings::leaf_count(n) {
+    if !checks::leaf_count(n) {
         return false;
     }
     packed.len() == n * (n - 1)

@@ -6,7 +6,8 @@ use Prim.Native.Nat.{ℕ}
 use Rattle.refusals.specs.declared.Refusal.{Refusal}
 use Rattle.refusals.specs.Refusals.{judged, answered}
 use Rattle.trees.specs.Listings.{tree-of}
-use Rattle.listings.specs.Operations.{listing-refusal, question-refusal}
+use Rattle.listings.specs.Operations.{listing-refusal}
+use Rattle.checks.specs.Questions.{question-refusal}
 use Rattle.pairings.specs.declared.Paired.the-variants.{As, Refused}
 use Rattle.pairings.specs.Answers.{as-paired}
 use Rattle.pairings.specs.Operations.{pairing-in, pairing-answer}

@@ -15,7 +15,7 @@ use Rattle.base.proofs.Bools.{never, or-neither}
 use Rattle.base.proofs.Lists.{length-tab, getD-tab, none-not-some, none-found, find-none}
 use Rattle.refusals.specs.declared.Refusal.{Refusal}
 use Rattle.refusals.specs.declared.Refusal.the-variants.{Question}
-use Rattle.listings.specs.Operations.{wrong-at, question-refusal}
+use Rattle.checks.specs.Questions.{wrong-at, question-refusal}
 use Rattle.trees.proofs.Pairings.{Four}
 use Rattle.pairings.proofs.Finds.{first-found, any-before}
 

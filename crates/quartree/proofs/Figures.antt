@@ -22,7 +22,7 @@ use Rattle.refusals.specs.Refusals.{outcome}
 use Rattle.refusals.proofs.Causes.{Arises, arises-judged, arises-last, arises-unless}
 use Rattle.trees.specs.Listings.{child, rules-refusal-from, rules-refusal}
 use Rattle.trees.specs.Tables.{cells-refusal}
-use Rattle.listings.specs.Sizes.{count-refusal, length-refusal, room-refusal}
+use Rattle.checks.specs.Sizes.{count-refusal, length-refusal, room-refusal}
 use Rattle.listings.specs.Operations.{listing-refusal, check-answer, standardise-answer}
 use Rattle.listings.proofs.ListingRefusal.{count-right, length-right}
 use Rattle.splits.specs.Operations.{splits-answer}

@@ -11,7 +11,7 @@ use Rattle.base.specs.Lists.{all-in}
 use Rattle.base.proofs.Bools.{and-both}
 use Rattle.refusals.specs.Refusals.{accepted}
 use Rattle.refusals.proofs.Answers.{judged-alone, judged-none, answered-accepted}
-use Rattle.listings.specs.Operations.{question-refusal}
+use Rattle.checks.specs.Questions.{question-refusal}
 use Rattle.sheets.specs.Sheets.{leaves-of, offset-of, name-start, name, longest-name, name-byte, is-name}
 use Rattle.sheets.specs.Operations.{kept-sheet-refusal, sheet-refusal}
 use Rattle.sheets.proofs.Accepted.{names-good}

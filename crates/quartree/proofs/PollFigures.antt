@@ -8,7 +8,7 @@ use lib.ListN.{length}
 use Rattle.refusals.specs.declared.Refusal.the-variants as cause
 use Rattle.refusals.specs.Refusals.{outcome}
 use Rattle.refusals.proofs.Causes.{arises-unless}
-use Rattle.listings.specs.Sizes.{length-refusal, room-refusal}
+use Rattle.checks.specs.Sizes.{length-refusal, room-refusal}
 use Rattle.polls.specs.declared.Record.{Record}
 use Rattle.polls.specs.declared.judging.Quartet.{Quartet}
 use Rattle.limits.specs.Limits.{fewest-polled, most-polled}

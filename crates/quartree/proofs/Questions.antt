@@ -15,8 +15,9 @@ use Rattle.refusals.specs.declared.Refusal.{Refusal}
 use Rattle.refusals.specs.declared.Refusal.the-variants.{Question}
 use Rattle.refusals.specs.Refusals.{Answer, accepted, refused, judged, answered, unless}
 use Rattle.refusals.proofs.Answers.{unless-passed}
-use Rattle.listings.specs.Sizes.{length-refusal}
-use Rattle.listings.specs.Operations.{listing-refusal, wrong-at, question-refusal}
+use Rattle.checks.specs.Sizes.{length-refusal}
+use Rattle.listings.specs.Operations.{listing-refusal}
+use Rattle.checks.specs.Questions.{wrong-at, question-refusal}
 use Rattle.listings.proofs.ListingRefusal.{count-stops, count-passes, length-stops, length-passes}
 use Rattle.pairings.specs.Operations.{pairing-answer}
 use Rattle.pairings.specs.Answers.{as-paired}

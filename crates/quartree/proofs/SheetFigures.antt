@@ -13,7 +13,7 @@ use Rattle.base.proofs.Bools.{bool?}
 use Rattle.refusals.specs.declared.Refusal.{Refusal}
 use Rattle.refusals.specs.declared.Outcome.the-variants.{Done}
 use Rattle.refusals.specs.Refusals.{Answer, accepted, refused, answered, outcome}
-use Rattle.listings.specs.Operations.{question-refusal}
+use Rattle.checks.specs.Questions.{question-refusal}
 use Rattle.sheets.specs.Sheets.{leaves-of, offset-of, name-start, name, longest-sheet}
 use Rattle.sheets.specs.Operations.{kept-sheet-refusal, sheet-refusal, check-sheet-answer}
 use Rattle.sheets.proofs.Causes.{sheet-arises}

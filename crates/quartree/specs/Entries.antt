@@ -3,7 +3,7 @@ use mathlib.Core.List.{List, [], _∷_}
 use Prim.Native.Nat.{ℕ}
 use lib.ListN.{length}
 use Rattle.refusals.specs.Refusals.{Answer, judged, unless}
-use Rattle.listings.specs.Sizes.{count-refusal, length-refusal}
+use Rattle.checks.specs.Sizes.{count-refusal, length-refusal}
 use Rattle.pairings.specs.Operations.{pairing-answer}
 
 -- a question lent as a list: 1, then 2 where it has not four numbers, then as the operation has it

@@ -124,7 +124,7 @@ pub extern "C" fn quartree_splits(n: usize, listing: &[u16], out: &mut [u8]) -> 
 pub extern "C" fn quartree_pairing(n: usize, listing: &[u16], question: &[u16]) -> u64
     ensures { λ r. ⌜ r ≡ number-reply (lent-pairing-answer n (now (listing .entry)) (now (question .entry))) ⌝ }
 {
-    if !listings::leaf_count(n) {
+    if !checks::leaf_count(n) {
         return 1;
     }
     if question.len() != 4 {

@@ -11,7 +11,7 @@ use Rattle.refusals.specs.declared.Refusal.the-variants.{LeafCount as Count, In
 use Rattle.limits.specs.Limits.{most-leaves, IsLeafCount}
 use Rattle.refusals.specs.Refusals.{judged}
 use Rattle.refusals.proofs.Answers.{judged-alone}
-use Rattle.listings.specs.Sizes.{room-refusal}
+use Rattle.checks.specs.Sizes.{room-refusal}
 use Rattle.listings.proofs.ListingRefusal.{count-stops, count-passes, length-stops, length-passes, room-stops}
 use Rattle.listings.proofs.ListingRefusal.{room-passes}
 use Rattle.table_checks.specs.Operations.{table-refusal}

@@ -15,7 +15,7 @@ use Rattle.refusals.proofs.Meanings.{unless-means, unless-fixed, with-meaning}
 use Rattle.base.proofs.Bools.{bool?}
 use Rattle.trees.specs.Listings.{KeepsRules, tree-of, standard}
 use Rattle.trees.specs.Tables.{HasTable}
-use Rattle.listings.specs.Sizes.{count-refusal, length-refusal}
+use Rattle.checks.specs.Sizes.{count-refusal, length-refusal}
 use Rattle.listings.proofs.ListingRefusal.{length-right}
 use Rattle.table_checks.specs.Operations.{table-refusal}
 use Rattle.table_checks.proofs.TableRefusal.{Accepted, accepted-table}

@@ -1,5 +1,6 @@
 -- The causes of refusal (01, "Causes of refusal"): the number of each, and the figures returned with it; and answers.
 -- The causes themselves are the cases of the enum `Refusal` in src/lib.rt.
+use mathlib.Core.Bool.{Bool, cond}
 use mathlib.Core.List.{List, [], _∷_, _++_}
 use mathlib.Core.Option.{Option, none, some}
 use Prim.Native.Nat.{ℕ}
@@ -54,6 +55,10 @@ figures-of (SameName i) = i ∷ []
 pub data Answer (A : Type 0) : Type 0 where
   accepted : A → Answer A
   refused : Refusal → Answer A
+
+-- a test, and the refusal that arises where it is not passed
+unfoldable pub refuse : Bool → Refusal → Option Refusal
+refuse ok r = cond ok none (some r)
 
 -- the first refusal that arises, of those judged one after the other
 unfoldable pub judged : List (Option Refusal) → Option Refusal

@@ -16,7 +16,7 @@ use Rattle.refusals.specs.declared.Outcome.{Outcome}
 use Rattle.refusals.specs.declared.Outcome.the-variants.{Done, Refused}
 use Rattle.refusals.specs.Refusals.{Answer, accepted, refused, judged, answered, outcome}
 use Rattle.refusals.proofs.Answers.{judged-alone, judged-none, outcome-answered, done-none}
-use Rattle.listings.specs.Operations.{question-refusal}
+use Rattle.checks.specs.Questions.{question-refusal}
 use Rattle.sheet_names.specs.declared.NamePlace.{NamePlace}
 use Rattle.sheets.specs.Sheets.{name-start, name, leaves-of, offset-of, longest-sheet}
 use Rattle.sheets.specs.Operations.{kept-sheet-refusal}

@@ -5,8 +5,8 @@ use Prim.Native.Nat.{ℕ}
 use Rattle.base.specs.Lists.{tab, any-in, all-in, find}
 use Rattle.refusals.specs.declared.Refusal.the-variants.{Question, SheetLength}
 use Rattle.refusals.specs.Refusals.{Answer, accepted, refused, judged, answered}
-use Rattle.listings.specs.Sizes.{count-refusal, room-refusal}
-use Rattle.listings.specs.Operations.{question-refusal}
+use Rattle.checks.specs.Sizes.{count-refusal, room-refusal}
+use Rattle.checks.specs.Questions.{question-refusal}
 use Rattle.sheets.specs.Sheets.{name-at, name-start, name, name-byte, is-name, same, trailer}
 use Rattle.sheets.specs.Operations.{right-ends, sheet-ends-refusal, right-sum, sheet-length-refusal, good-at, repeated}
 use Rattle.sheets.specs.Operations.{name-refusal, names-end-refusal}

@@ -4,7 +4,7 @@ use Prim.Native.Nat.{ℕ, _+_}
 use lib.ListN.{length}
 use Rattle.refusals.specs.declared.Outcome.the-variants.{Done, Refused}
 use Rattle.refusals.specs.Refusals.{Answer, accepted, refused, judged, answered}
-use Rattle.listings.specs.Operations.{question-refusal}
+use Rattle.checks.specs.Questions.{question-refusal}
 use Rattle.sheets.specs.Sheets.{leaves-of, offset-of, name-start, name}
 use Rattle.sheets.specs.Operations.{kept-sheet-refusal}
 use Rattle.sheet_names.specs.declared.NamePlace.{NamePlace}

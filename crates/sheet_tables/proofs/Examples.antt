@@ -5,7 +5,7 @@ use Rattle.base.specs.Numbers.{sum-below}
 use Rattle.base.specs.Lists.{tab, any-in, all-in}
 use Rattle.pair_counts.specs.Pairs.{P}
 use Rattle.refusals.specs.Refusals.{accepted, judged, answered}
-use Rattle.listings.specs.Sizes.{count-refusal, room-refusal}
+use Rattle.checks.specs.Sizes.{count-refusal, room-refusal}
 use Rattle.packed_tables.specs.Packed.{cells-before, mirrored, table-with}
 use Rattle.sheets.specs.Sheets.{number, name-at, name-start, name, name-byte, is-name, same, cells, trailer, leaves-of}
 use Rattle.sheets.specs.Sheets.{offset-of, cells-of}

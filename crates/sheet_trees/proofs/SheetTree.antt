@@ -10,7 +10,7 @@ use Rattle.limits.specs.Limits.{IsLeafCount}
 use Rattle.refusals.specs.declared.Refusal.{Refusal}
 use Rattle.refusals.specs.Refusals.{judged}
 use Rattle.refusals.proofs.Answers.{judged-on, judged-none, unless-passed}
-use Rattle.listings.specs.Sizes.{count-refusal, room-refusal}
+use Rattle.checks.specs.Sizes.{count-refusal, room-refusal}
 use Rattle.listings.proofs.ListingRefusal.{room-passes}
 use Rattle.table_checks.proofs.TableRefusal.{table-passes}
 use Rattle.packed_tables.specs.Packed.{table-with}

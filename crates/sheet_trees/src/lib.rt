@@ -22,7 +22,7 @@ fn judge_rows(sheet: &[u8], cells: usize, room: usize) -> Outcome
         room) ⌝ }
 {
     let n = sheets::leaf_count_of(sheet);
-    if !listings::leaf_count(n) {
+    if !checks::leaf_count(n) {
         return sheets::judge_sheet(sheet, 0, 0);
     }
     sheets::judge_sheet(sheet, cells * (n - 2), room)

@@ -12,7 +12,7 @@ use Rattle.refusals.specs.declared.Refusal.the-variants.{LeafCount as Count, Ou
 use Rattle.refusals.specs.declared.Refusal.the-variants.{Name, SameName}
 use Rattle.refusals.specs.Refusals.{judged}
 use Rattle.refusals.proofs.Causes.{Arises, arises-judged, arises-last, arises-both, arises-unless, arises-where}
-use Rattle.listings.specs.Sizes.{count-refusal, room-refusal}
+use Rattle.checks.specs.Sizes.{count-refusal, room-refusal}
 use Rattle.listings.proofs.ListingRefusal.{count-right}
 use Rattle.sheets.specs.Sheets.{name-start}
 use Rattle.sheets.specs.Operations.{right-ends, sheet-ends-refusal, right-sum, sheet-length-refusal, good-at}

@@ -14,7 +14,7 @@ use Rattle.refusals.specs.declared.Refusal.{Refusal}
 use Rattle.refusals.specs.declared.Refusal.the-variants.{LeafCount as Count, OutputRoom, SheetEnds, SheetLength}
 use Rattle.refusals.specs.Refusals.{judged}
 use Rattle.refusals.proofs.Answers.{judged-alone, judged-none}
-use Rattle.listings.specs.Sizes.{count-refusal, room-refusal}
+use Rattle.checks.specs.Sizes.{count-refusal, room-refusal}
 use Rattle.listings.proofs.ListingRefusal.{is-leaf-count}
 use Rattle.sheets.specs.Sheets.{trailer-bytes, cell-bytes}
 use Rattle.sheets.specs.Operations.{right-ends, sheet-ends-refusal, right-sum, sheet-length-refusal}

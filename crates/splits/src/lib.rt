@@ -15,7 +15,7 @@ pub fn splits(n: usize, listing: &[u16], out: &mut [u8]) -> Outcome
     ensures buffer { λ r. ⌜ now (out .exit)
         ≡ written (splits-answer n (now (listing .entry)) (length (now (out .entry)))) (now (out .entry)) ⌝ }
 {
-    if !listings::leaf_count(n) {
+    if !checks::leaf_count(n) {
         return Outcome::Refused(Refusal::LeafCount);
     }
     let judged = listings::judge(n, listing, limits::SET_BYTES * (n - 3), out.len());

@@ -3,7 +3,7 @@ use crate::sets::single;
 use crate::sets::union;
 use limits::MOST_NODES;
 use limits::SET_BYTES;
-use listings::index_of_u16;
+use numbers::index_of_u16;
 ghost use mathlib.Core.Path.{_≡_};
 ghost use mathlib.Core.List.{_++_};
 ghost use Prim.Native.Nat.{ℕ, _+_, _-_, _*_, _≤_, _<_};

@@ -15,7 +15,7 @@ use Rattle.refusals.specs.declared.Refusal.{Refusal}
 use Rattle.refusals.specs.declared.Refusal.the-variants.{LeafCount as Count, InputLength, OutputRoom, Diagonal, Halves}
 use Rattle.refusals.proofs.Causes.{Arises, arises-judged, arises-last, arises-unless}
 use Rattle.trees.specs.Tables.{first-filled, first-unequal, cells-refusal}
-use Rattle.listings.specs.Sizes.{count-refusal, length-refusal, room-refusal}
+use Rattle.checks.specs.Sizes.{count-refusal, length-refusal, room-refusal}
 use Rattle.listings.proofs.ListingRefusal.{count-right}
 use Rattle.table_checks.specs.Operations.{table-refusal}
 

@@ -8,7 +8,7 @@ use Rattle.limits.specs.Limits.{IsLeafCount}
 use Rattle.refusals.proofs.Answers.{judged-alone, judged-none}
 use Rattle.trees.specs.Tables.{IsTable, cells-refusal}
 use Rattle.trees.proofs.Tables.{passes, passes-exactly}
-use Rattle.listings.specs.Sizes.{count-refusal, length-refusal, room-refusal}
+use Rattle.checks.specs.Sizes.{count-refusal, length-refusal, room-refusal}
 use Rattle.listings.proofs.ListingRefusal.{count-passes, length-passes, room-passes, count-right, length-right}
 use Rattle.listings.proofs.ListingRefusal.{room-right}
 use Rattle.table_checks.specs.Operations.{table-refusal}

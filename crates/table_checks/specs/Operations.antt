@@ -6,7 +6,7 @@ use lib.ListN.{length}
 use Rattle.refusals.specs.declared.Refusal.{Refusal}
 use Rattle.refusals.specs.Refusals.{judged}
 use Rattle.trees.specs.Tables.{cells-refusal}
-use Rattle.listings.specs.Sizes.{count-refusal, length-refusal, room-refusal}
+use Rattle.checks.specs.Sizes.{count-refusal, length-refusal, room-refusal}
 
 -- a table of n leaves, and room for a result of so many numbers: 1, 2, 3, 4, 5
 unfoldable pub table-refusal : (n : ℕ) (t : List ℕ) (due room : ℕ) → Option Refusal

@@ -12,7 +12,7 @@ use Rattle.trees.specs.Trees.{Tree}
 use Rattle.trees.specs.Listings.{tree-of}
 use Rattle.trees.specs.Quartets.{quartets}
 use Rattle.trees.specs.Tables.{table-of, cells-refusal}
-use Rattle.listings.specs.Sizes.{count-refusal, length-refusal}
+use Rattle.checks.specs.Sizes.{count-refusal, length-refusal}
 use Rattle.listings.specs.Operations.{listing-refusal}
 
 -- the table of the tree that a listing stands for: 1, 2, 3, 7, 8

@@ -16,7 +16,7 @@ pub fn table(n: usize, listing: &[u16], out: &mut [u32]) -> Outcome
     ensures buffer { λ r. ⌜ now (out .exit)
         ≡ written (table-answer n (now (listing .entry)) (length (now (out .entry)))) (now (out .entry)) ⌝ }
 {
-    if !listings::leaf_count(n) {
+    if !checks::leaf_count(n) {
         return Outcome::Refused(Refusal::LeafCount);
     }
     let judged = listings::judge(n, listing, n * n, out.len());
@@ -36,7 +36,7 @@ pub fn gap(n: usize, cells: &[u32], listing: &[u16], out: &mut [i64]) -> Outcome
         ≡ written (gap-answer n (now (cells .entry)) (now (listing .entry)) (length (now (out .entry))))
         (now (out .entry)) ⌝ }
 {
-    if !listings::leaf_count(n) {
+    if !checks::leaf_count(n) {
         return Outcome::Refused(Refusal::LeafCount);
     }
     if cells.len() != n * n {

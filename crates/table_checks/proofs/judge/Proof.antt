@@ -6,7 +6,7 @@ use borrow.Author.Needs.{needs}
 use borrow.Author.Tests.{lt-leb, le-leb, eq-eqb, ne-eqb}
 use Rattle.limits.proofs.TablePlaces.{square-small}
 use Rattle.refusals.specs.Refusals.{judged, outcome-of}
-use Rattle.listings.specs.Sizes.{count-refusal, length-refusal, room-refusal}
+use Rattle.checks.specs.Sizes.{count-refusal, length-refusal, room-refusal}
 use Rattle.table_checks.specs.Operations.{table-refusal}
 use Rattle.table_checks.proofs.TableRefusal.{cells-left}
 use Rattle.table_checks.proofs.judge.Statement.{statement}

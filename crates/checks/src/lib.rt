@@ -1,0 +1,91 @@
+// What is judged of sizes and questions: 1, 2, 3 and 9; and how long a listing and a table are due to be.
+use limits::FEWEST_POLLED;
+use limits::Kind;
+use limits::MOST_LEAVES;
+use limits::MOST_POLLED;
+use refusals::Outcome;
+use refusals::Refusal;
+ghost use mathlib.Core.Path.{_≡_};
+ghost use Prim.Native.Nat.{_-_, _*_};
+ghost use Rattle.limits.specs.declared.Kind.the-variants.{Counts};
+ghost use Rattle.limits.specs.Limits.{IsLeafCount};
+ghost use Rattle.refusals.specs.Refusals.{outcome-of};
+ghost use Rattle.checks.specs.Sizes.{within-range, right-count, input-refusal, sizes-refusal};
+
+// Whether a number is at least `low` and at most `high`.
+fn within(low: usize, n: usize, high: usize) -> bool
+    ensures { λ r. ⌜ r ≡ within-range low n high ⌝ }
+{
+    low <= n && n <= high
+}
+
+// Whether a table of this kind may have n leaves.
+pub fn leaf_count_of(kind: Kind, n: usize) -> bool
+    ensures { λ r. ⌜ r ≡ right-count kind n ⌝ }
+{
+    match kind {
+        Kind::Counts => within(3, n, MOST_LEAVES),
+        Kind::Poll => within(FEWEST_POLLED, n, MOST_POLLED),
+    }
+}
+
+// Whether a tree may have n leaves.
+pub fn leaf_count(n: usize) -> bool
+    ensures { λ r. ⌜ r ≡ right-count Counts n ⌝ }
+{
+    within(3, n, MOST_LEAVES)
+}
+
+// The leaf count, and the length of a lent input against the length that is due: 1, 2.
+pub fn judge_input(kind: Kind, n: usize, due: usize, lent: usize) -> Outcome
+    ensures { λ r. ⌜ r ≡ outcome-of (input-refusal kind n due lent) ⌝ }
+{
+    if !leaf_count_of(kind, n) {
+        return Outcome::Refused(Refusal::LeafCount);
+    }
+    if lent != due {
+        return Outcome::Refused(Refusal::InputLength);
+    }
+    Outcome::Done
+}
+
+// The same, and the room for a result: 1, 2, 3.
+pub fn judge_sizes(
+    kind: Kind,
+    n: usize,
+    due: usize,
+    lent: usize,
+    result: usize,
+    room: usize,
+) -> Outcome
+    ensures { λ r. ⌜ r ≡ outcome-of (sizes-refusal kind n due lent result room) ⌝ }
+{
+    let input = judge_input(kind, n, due, lent);
+    let Outcome::Done = input else {
+        return input;
+    };
+    if room < result {
+        return Outcome::Refused(Refusal::OutputRoom);
+    }
+    input
+}
+
+// How many numbers a listing of n leaves has; 0 where no tree has n leaves.
+pub fn listing_numbers(n: usize) -> usize
+    ensures { λ r. ⌜ (IsLeafCount n → r ≡ 2 * (n - 2)) ⌝ }
+{
+    if !leaf_count(n) {
+        return 0;
+    }
+    2 * (n - 2)
+}
+
+// How many cells a table of n leaves has; 0 where no tree has n leaves.
+pub fn table_cells(n: usize) -> usize
+    ensures { λ r. ⌜ (IsLeafCount n → r ≡ n * n) ⌝ }
+{
+    if !leaf_count(n) {
+        return 0;
+    }
+    n * n
+}
