@@ -10,12 +10,14 @@ use borrow.Author.Tests.{leb-true, eqb-true, le-leb, lt-leb, eq-eqb, ne-eqb}
 use lib.Dec.{leb, eqb}
 use Rattle.base.proofs.Bools.{bool?, never, and-both}
 use Rattle.limits.specs.declared.Kind.{Kind}
+use Rattle.limits.specs.declared.Kind.the-variants.{Counts}
 use Rattle.limits.specs.Limits.{fewest-of, most-of, IsCountOf}
 use Rattle.refusals.specs.declared.Refusal.{Refusal}
 use Rattle.refusals.specs.declared.Refusal.the-variants.{LeafCount as Count, InputLength, OutputRoom}
 use Rattle.refusals.specs.Refusals.{refuse, judged}
 use Rattle.refusals.proofs.Answers.{refuse-passed, refuse-failed, refuse-none, judged-stops, judged-passes}
 use Rattle.refusals.proofs.Answers.{judged-none, judged-alone}
+use Rattle.refusals.proofs.Causes.{Arises, arises-judged, arises-last, arises-refuse}
 use Rattle.checks.specs.Sizes.{right-count, count-refusal-of, length-refusal, room-refusal}
 use Rattle.checks.specs.Sizes.{input-refusal, sizes-refusal}
 
@@ -23,6 +25,9 @@ use Rattle.checks.specs.Sizes.{input-refusal, sizes-refusal}
 pub is-count : (kind : Kind) (n : ℕ) → right-count kind n ≡ true → IsCountOf kind n
 is-count kind n h =
     let r = and-both (leb (fewest-of kind) n) (leb n (most-of kind)) h in (leb-true _ _ (r .0), leb-true _ _ (r .1))
+
+pub is-leaf-count : (n : ℕ) → right-count Counts n ≡ true → IsCountOf Counts n
+is-leaf-count n h = is-count Counts n h
 
 count-is : (kind : Kind) (n : ℕ) → IsCountOf kind n → right-count kind n ≡ true
 count-is kind n h = rw (le-leb (fewest-of kind) n (h .0), le-leb n (most-of kind) (h .1))
@@ -124,3 +129,17 @@ module _ (kind : Kind) (n due lent result room : ℕ) where
           right-count kind n ≡ false → (d r : ℕ)
           → judged (input-refusal kind n d lent ∷ room-refusal r room ∷ []) ≡ some Count
       stops f d r = judged-stops _ (unfold input-refusal in judged-stops _ (count-stops kind n f))
+
+-- which refusals of sizes may arise
+module _ (P : Refusal → Type 0) (kind : Kind) (n due lent result room : ℕ) (count : P Count) (input : P InputLength) where
+  pub input-arises : Arises P (input-refusal kind n due lent)
+  unfolding input-refusal count-refusal-of length-refusal
+  input-arises =
+      arises-judged P (count-refusal-of kind n) _ (arises-refuse P (right-count kind n) Count count)
+      (λ _. arises-last P (length-refusal due lent) (arises-refuse P (eqb lent due) InputLength input))
+
+  pub sizes-arise : P OutputRoom → Arises P (sizes-refusal kind n due lent result room)
+  unfolding sizes-refusal room-refusal
+  sizes-arise output =
+      arises-judged P (input-refusal kind n due lent) _ input-arises
+      (λ _. arises-last P (room-refusal result room) (arises-refuse P (leb result room) OutputRoom output))

@@ -1,14 +1,15 @@
-// What is judged of sizes and questions: 1, 2, 3 and 9; and how long a listing and a table are due to be.
+// What is judged of sizes and questions: 1, 2, 3 and 9; and how long a listing, a table and splits are due to be.
 use limits::FEWEST_POLLED;
 use limits::Kind;
 use limits::MOST_LEAVES;
 use limits::MOST_POLLED;
+use limits::SET_BYTES;
 use refusals::Outcome;
 use refusals::Refusal;
 ghost use mathlib.Core.Path.{_≡_};
 ghost use Prim.Native.Nat.{_-_, _*_};
 ghost use Rattle.limits.specs.declared.Kind.the-variants.{Counts};
-ghost use Rattle.limits.specs.Limits.{IsLeafCount};
+ghost use Rattle.limits.specs.Limits.{IsLeafCount, set-bytes};
 ghost use Rattle.refusals.specs.Refusals.{outcome-of};
 ghost use Rattle.checks.specs.Sizes.{within-range, right-count, input-refusal, sizes-refusal};
 
@@ -88,4 +89,14 @@ pub fn table_cells(n: usize) -> usize
         return 0;
     }
     n * n
+}
+
+// How many bytes the splits of a tree of n leaves take, a leaf set each; 0 where no tree has n leaves.
+pub fn split_bytes(n: usize) -> usize
+    ensures { λ r. ⌜ (IsLeafCount n → r ≡ set-bytes * (n - 3)) ⌝ }
+{
+    if !leaf_count(n) {
+        return 0;
+    }
+    SET_BYTES * (n - 3)
 }

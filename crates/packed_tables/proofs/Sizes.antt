@@ -9,7 +9,7 @@ use lib.ListN.{length}
 use Rattle.base.specs.Lists.{filled}
 use Rattle.base.proofs.Bools.{and-both}
 use Rattle.limits.specs.Limits.{most-leaves}
-use Rattle.listings.proofs.ListingRefusal.{is-leaf-count}
+use Rattle.checks.proofs.Sizes.{is-leaf-count}
 use Rattle.packed_tables.specs.Packed.{mirrored, packed-cells, Packed}
 use Rattle.packed_tables.specs.Operations.{is-packed, packed-cell, with-packed-row}
 

@@ -4,7 +4,7 @@ use mathlib.Core.Bool.{Bool, true, false, cond}
 use mathlib.Core.List.{List, [], _∷_, _++_}
 use mathlib.Core.Option.{Option, none, some}
 use Rattle.refusals.specs.declared.Refusal.{Refusal}
-use Rattle.refusals.specs.Refusals.{judged}
+use Rattle.refusals.specs.Refusals.{refuse, judged}
 
 -- a refusal, if one arises, is as P says
 abbrev pub Arises : (Refusal → Type 0) → Option Refusal → Type 0
@@ -37,6 +37,10 @@ module _ (P : Refusal → Type 0) where
   pub arises-unless : (b : Bool) (r : Refusal) → P r → Arises P (cond b none (some r))
   arises-unless true r p = tt
   arises-unless false r p = p
+
+  pub arises-refuse : (ok : Bool) (r : Refusal) → P r → Arises P (refuse ok r)
+  unfolding refuse
+  arises-refuse ok r p = arises-unless ok r p
 
   pub arises-where : (b : Bool) (r : Refusal) → P r → Arises P (cond b (some r) none)
   arises-where true r p = p

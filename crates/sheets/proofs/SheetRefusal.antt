@@ -15,7 +15,7 @@ use Rattle.refusals.specs.declared.Refusal.the-variants.{LeafCount as Count, Ou
 use Rattle.refusals.specs.Refusals.{judged}
 use Rattle.refusals.proofs.Answers.{judged-alone, judged-none}
 use Rattle.checks.specs.Sizes.{count-refusal, room-refusal}
-use Rattle.listings.proofs.ListingRefusal.{is-leaf-count}
+use Rattle.checks.proofs.Sizes.{is-leaf-count}
 use Rattle.sheets.specs.Sheets.{trailer-bytes, cell-bytes}
 use Rattle.sheets.specs.Operations.{right-ends, sheet-ends-refusal, right-sum, sheet-length-refusal}
 use Rattle.sheets.specs.Operations.{names-refusal, kept-sheet-refusal}

@@ -1,22 +1,21 @@
 -- Which refusals may arise from a table: 1, 2, 3, then 4 and 5, whose leaves are below the leaf count.
 use mathlib.Core.Path.{_≡_, refl, sym, _∙_}
-use mathlib.Core.Bool.{_&&_}
 use mathlib.Core.List.{List}
 use mathlib.Core.Option.{Option, none, some}
 use Prim.Native.Nat.{ℕ, _*_, _/_, _%_, _<_}
 use native.Mathlib.Nat.{div-lt-iff-lt-mul, mod-lt}
 use native.Mathlib.Omega.{arith}
-use lib.Dec.{leb, eqb}
 use lib.ListN.{length}
 use Rattle.base.specs.Lists.{tab, in-rows}
 use Rattle.base.proofs.Lists.{length-tab, getD-tab, find-place}
-use Rattle.limits.specs.Limits.{most-leaves, IsLeafCount}
+use Rattle.limits.specs.declared.Kind.the-variants.{Counts}
+use Rattle.limits.specs.Limits.{IsLeafCount}
 use Rattle.refusals.specs.declared.Refusal.{Refusal}
 use Rattle.refusals.specs.declared.Refusal.the-variants.{LeafCount as Count, InputLength, OutputRoom, Diagonal, Halves}
-use Rattle.refusals.proofs.Causes.{Arises, arises-judged, arises-last, arises-unless}
+use Rattle.refusals.proofs.Causes.{Arises, arises-judged, arises-last}
 use Rattle.trees.specs.Tables.{first-filled, first-unequal, cells-refusal}
-use Rattle.checks.specs.Sizes.{count-refusal, length-refusal, room-refusal}
-use Rattle.listings.proofs.ListingRefusal.{count-right}
+use Rattle.checks.specs.Sizes.{sizes-refusal}
+use Rattle.checks.proofs.Sizes.{sizes-right, sizes-arise}
 use Rattle.table_checks.specs.Operations.{table-refusal}
 
 -- the leaf of a diagonal cell, and the leaves of two cells
@@ -55,12 +54,11 @@ module _ (P : Refusal → Type 0) (n : ℕ) (t : List ℕ) (w : CellCauses P n) 
       go none e none f = unfold cells-refusal in rw (e, f, cells-refusal) tt
 
   pub table-arises : P Count → P InputLength → P OutputRoom → (due room : ℕ) → Arises P (table-refusal n t due room)
-  unfolding table-refusal count-refusal length-refusal room-refusal
+  unfolding table-refusal
   table-arises count input output due room =
-      arises-judged P (count-refusal n) _ (arises-unless P (leb 3 n && leb n most-leaves) _ count)
-      (λ a. arises-judged P (length-refusal (n * n) (length t)) _ (arises-unless P (eqb (length t) (n * n)) _ input)
-      (λ b. arises-judged P (room-refusal due room) _ (arises-unless P (leb due room) _ output)
-      (λ d. arises-last P (cells-refusal n t) (cells-arise (count-right n a)))))
+      arises-judged P (sizes-refusal Counts n (n * n) (length t) due room) _
+      (sizes-arise P Counts n (n * n) (length t) due room count input output)
+      (λ a. arises-last P (cells-refusal n t) (cells-arise (sizes-right Counts n _ _ due room a .count)))
 
 -- so the leaves of 5 are below the leaf count
 pub halves-below :

@@ -1,28 +1,38 @@
 -- A table as it is judged: where the sizes are right the cells decide; and what holds of a table that is not refused.
-use mathlib.Core.Path.{_≡_, _∙_}
-use mathlib.Core.List.{List}
+use mathlib.Core.Path.{_≡_, refl, ap, _∙_}
+use mathlib.Core.List.{List, [], _∷_}
 use mathlib.Core.Option.{none}
 use Prim.Native.Nat.{ℕ, _*_, _≤_}
 use lib.ListN.{length}
+use Rattle.limits.specs.declared.Kind.the-variants.{Counts}
 use Rattle.limits.specs.Limits.{IsLeafCount}
-use Rattle.refusals.proofs.Answers.{judged-alone, judged-none}
+use Rattle.refusals.specs.Refusals.{judged}
+use Rattle.refusals.proofs.Answers.{judged-alone, judged-none, judged-passes}
 use Rattle.trees.specs.Tables.{IsTable, cells-refusal}
 use Rattle.trees.proofs.Tables.{passes, passes-exactly}
-use Rattle.checks.specs.Sizes.{count-refusal, length-refusal, room-refusal}
-use Rattle.listings.proofs.ListingRefusal.{count-passes, length-passes, room-passes, count-right, length-right}
-use Rattle.listings.proofs.ListingRefusal.{room-right}
+use Rattle.checks.specs.Sizes.{sizes-refusal}
+use Rattle.checks.proofs.Sizes.{sizes-due, sizes-right, sizes-pass}
 use Rattle.table_checks.specs.Operations.{table-refusal}
 
--- where 1, 2 and 3 do not arise, 4 and 5 decide
-pub cells-left :
-    (n : ℕ) (t : List ℕ) (due room : ℕ) → IsLeafCount n → length t ≡ n * n → due ≤ room
-    → table-refusal n t due room ≡ cells-refusal n t
-unfolding table-refusal
-cells-left n t due room c e m =
-    count-passes _ n c
-    ∙ length-passes _ (n * n) (length t) e
-    ∙ room-passes _ due room m
-    ∙ judged-alone (cells-refusal n t)
+module _ (n : ℕ) (t : List ℕ) (due room : ℕ) where
+  -- what the code works out as due, for the table and for the result
+  pub sizes-as-due :
+      (d : ℕ) → (IsLeafCount n → d ≡ n * n)
+      → sizes-refusal Counts n d (length t) due room ≡ sizes-refusal Counts n (n * n) (length t) due room
+  sizes-as-due d h = sizes-due Counts n d (length t) due room _ due (λ c. (h c, refl))
+
+  pub table-as-due : (d : ℕ) → (IsLeafCount n → d ≡ due) → table-refusal n t d room ≡ table-refusal n t due room
+  unfolding table-refusal
+  table-as-due d h =
+      ap (λ o. judged (o ∷ cells-refusal n t ∷ []))
+      (sizes-due Counts n _ (length t) d room (n * n) due (λ c. (refl, h c)))
+
+  -- where 1, 2 and 3 do not arise, 4 and 5 decide
+  pub cells-left : IsLeafCount n → length t ≡ n * n → due ≤ room → table-refusal n t due room ≡ cells-refusal n t
+  unfolding table-refusal
+  cells-left c e m =
+      let sizes = sizes-pass Counts n _ _ due room (record { count = c; long = e; enough = m }) in
+      judged-passes _ sizes ∙ judged-alone (cells-refusal n t)
 
 -- a table that is not refused
 pub record Accepted (n : ℕ) (t : List ℕ) (due room : ℕ) : Type 0 where
@@ -33,15 +43,10 @@ pub record Accepted (n : ℕ) (t : List ℕ) (due room : ℕ) : Type 0 where
 pub accepted-table : (n : ℕ) (t : List ℕ) (due room : ℕ) → table-refusal n t due room ≡ none → Accepted n t due room
 unfolding table-refusal
 accepted-table n t due room h =
-    let a = judged-none (count-refusal n) _ h in
-    let b = judged-none (length-refusal (n * n) (length t)) _ (a .1) in
-    let d = judged-none (room-refusal due room) _ (b .1) in
-    let e = judged-none (cells-refusal n t) _ (d .1) in
-    record {
-      count = count-right n (a .0);
-      is-table = passes n t (length-right _ _ (b .0)) (e .0);
-      room-enough = room-right _ _ (d .0);
-    }
+    let a = judged-none (sizes-refusal Counts n (n * n) (length t) due room) _ h in
+    let b = judged-none (cells-refusal n t) _ (a .1) in
+    let w = sizes-right Counts n _ (length t) due room (a .0) in
+    record { count = w .count; is-table = passes n t (w .long) (b .0); room-enough = w .enough }
 
 -- and a table with a zero diagonal and equal halves is not refused where the room is enough
 pub table-passes :

@@ -1,4 +1,5 @@
 // What is judged of a lent table.
+use limits::Kind;
 use refusals::Outcome;
 use refusals::Refusal;
 ghost use mathlib.Core.Path.{_≡_};
@@ -82,17 +83,16 @@ fn wrong(n: usize, cells: &[u32]) -> Outcome
 pub fn judge(n: usize, cells: &[u32], due: usize, room: usize) -> Outcome
     ensures { λ r. ⌜ r ≡ outcome-of (table-refusal n (now (cells .entry)) due room) ⌝ }
 {
-    if n < 3 {
-        return Outcome::Refused(Refusal::LeafCount);
-    }
-    if 128 < n {
-        return Outcome::Refused(Refusal::LeafCount);
-    }
-    if cells.len() != n * n {
-        return Outcome::Refused(Refusal::InputLength);
-    }
-    if room < due {
-        return Outcome::Refused(Refusal::OutputRoom);
-    }
+    let sizes = checks::judge_sizes(
+        Kind::Counts,
+        n,
+        checks::table_cells(n),
+        cells.len(),
+        due,
+        room,
+    );
+    let Outcome::Done = sizes else {
+        return sizes;
+    };
     wrong(n, cells)
 }

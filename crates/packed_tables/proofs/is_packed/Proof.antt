@@ -7,7 +7,7 @@ use borrow.Author.Needs.{needs}
 use borrow.Author.Tests.{not-true, not-false}
 use Prim.Native.Nat.{_-_, _≤_}
 use Rattle.limits.specs.Limits.{most-leaves, IsLeafCount}
-use Rattle.listings.proofs.ListingRefusal.{is-leaf-count}
+use Rattle.checks.proofs.Sizes.{is-leaf-count}
 use Rattle.packed_tables.specs.Operations.{is-packed}
 use Rattle.packed_tables.proofs.is_packed.Statement.{statement}
 use Rattle.packed_tables.proofs.is_packed.Tie as tie

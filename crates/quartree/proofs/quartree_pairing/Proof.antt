@@ -4,7 +4,7 @@ use mathlib.Core.Path.{refl, ap, sym, _∙_}
 use borrow.Author.Needs.{needs}
 use borrow.Author.Tests.{not-true, not-false}
 use Rattle.limits.specs.Limits.{IsLeafCount}
-use Rattle.listings.proofs.ListingRefusal.{is-leaf-count}
+use Rattle.checks.proofs.Sizes.{is-leaf-count}
 use Rattle.pairings.specs.Operations.{pairing-answer}
 use Rattle.quartree.specs.Replies.{number-reply}
 use Rattle.quartree.specs.Steps.{paired-reply}

@@ -10,7 +10,7 @@ use borrow.Author.Tests.{not-true, not-false}
 use lib.ListN.{length}
 use Rattle.limits.specs.Limits.{most-leaves, IsLeafCount}
 use Rattle.refusals.proofs.Answers.{unless-some, unless-none}
-use Rattle.listings.proofs.ListingRefusal.{is-leaf-count}
+use Rattle.checks.proofs.Sizes.{is-leaf-count}
 use Rattle.packed_tables.specs.Packed.{table-with, packed-cells, Packed}
 use Rattle.packed_tables.proofs.PackedIsTable.{sheet-is-table}
 use Rattle.packed_tables.proofs.Sizes.{packed-passes}

@@ -8,7 +8,7 @@ use borrow.Author.Tests.{not-true, not-false}
 use Prim.Native.Nat.{_-_, _≤_}
 use Rattle.limits.specs.Limits.{IsLeafCount, most-rows}
 use Rattle.refusals.specs.Refusals.{outcome-of}
-use Rattle.listings.proofs.ListingRefusal.{is-leaf-count}
+use Rattle.checks.proofs.Sizes.{is-leaf-count}
 use Rattle.sheet_trees.proofs.Listed.{count-decides}
 use Rattle.sheet_trees.proofs.judge_rows.Statement.{statement}
 use Rattle.sheet_trees.proofs.judge_rows.Tie as tie

@@ -1,55 +1,64 @@
--- `table_checks::judge` meets its contract: each test is the definition's next one, and a test that passes is passed
--- over.
-use mathlib.Core.Path.{ap, sym, _∙_}
-use native.Mathlib.Omega.{arith}
+-- `table_checks::judge` meets its contract: the sizes go first; where they are right the cells decide.
+use mathlib.Core.Path.{_≡_, ap, _∙_}
+use Prim.Native.Nat.{_*_}
 use borrow.Author.Needs.{needs}
-use borrow.Author.Tests.{lt-leb, le-leb, eq-eqb, ne-eqb}
-use Rattle.limits.proofs.TablePlaces.{square-small}
-use Rattle.refusals.specs.Refusals.{judged, outcome-of}
-use Rattle.checks.specs.Sizes.{count-refusal, length-refusal, room-refusal}
+use lib.ListN.{length}
+use Rattle.limits.specs.declared.Kind.the-variants.{Counts}
+use Rattle.refusals.specs.Refusals.{outcome-of}
+use Rattle.refusals.proofs.Answers.{go-stops, go-passes, call-passed}
+use Rattle.checks.specs.Sizes.{sizes-refusal}
+use Rattle.checks.proofs.Sizes.{sizes-right}
 use Rattle.table_checks.specs.Operations.{table-refusal}
-use Rattle.table_checks.proofs.TableRefusal.{cells-left}
+use Rattle.table_checks.proofs.TableRefusal.{sizes-as-due}
 use Rattle.table_checks.proofs.judge.Statement.{statement}
 use Rattle.table_checks.proofs.judge.Tie as tie
 
+table-cells-requires : tie.Need-table-cells-requires
+table-cells-requires c κs = search needs
+
+judge-sizes-requires : tie.Need-judge-sizes-requires
+judge-sizes-requires c κs = search needs
+
+enum-told : tie.Need-enum-told
+enum-told c = search needs
+
+enum-told-2 : tie.Need-enum-told-2
+enum-told-2 c = search needs
+
+-- what the sizes say
+sizes :
+    (c : tie.After-judge-sizes)
+    → let a = c .before .before .before .args in
+    c .judge-sizes .result
+    ≡ outcome-of (sizes-refusal Counts (a .n) (a .n * a .n) (length (a .cells .now)) (a .due) (a .room))
+sizes c =
+    let a = c .before .before .before .args in
+    c .judge-sizes .ensures
+    ∙ ap outcome-of (sizes-as-due (a .n) (a .cells .now) (a .due) (a .room) _ (c .before .table-cells .ensures))
+
 returns : tie.Need-returns
-unfolding table-refusal judged outcome-of count-refusal
-returns c = simp (lt-leb _ _ (c .if1 .taken))
-
-returns-2 : tie.Need-returns-2
-unfolding table-refusal judged outcome-of count-refusal
-returns-2 c = simp (le-leb _ _ (c .before .if1 .left), lt-leb _ _ (c .if2 .taken))
-
-mul-if3 : tie.Need-mul-if3
-mul-if3 c = omega (arith, square-small (c .before .before .before .args .n) (omega arith))
-
-returns-3 : tie.Need-returns-3
-unfolding table-refusal judged outcome-of count-refusal length-refusal
-returns-3 c =
-    simp (le-leb _ _ (c .before .before .if1 .left), le-leb _ _ (c .before .if2 .left), ne-eqb _ _ (c .if3 .taken))
-
-returns-4 : tie.Need-returns-4
-unfolding table-refusal judged outcome-of count-refusal length-refusal room-refusal
-returns-4 c =
-    simp (
-      le-leb _ _ (c .before .before .before .if1 .left),
-      le-leb _ _ (c .before .before .if2 .left),
-      eq-eqb _ _ (c .before .if3 .left),
-      lt-leb _ _ (c .if4 .taken),
-    )
+unfolding table-refusal
+returns c = go-stops _ (sizes (c .before .before)) _ (c .enum-told2 .given .1)
 
 wrong-requires : tie.Need-wrong-requires
-wrong-requires c κs = search needs
+wrong-requires c κs =
+    let w = sizes-right Counts _ _ _ _ _ (call-passed _ (sizes (c .before .before)) (c .enum-told .given .1)) in
+    record { few = w .count .1; cells = w .long }
 
--- the sizes are right, so that the cells decide
-returns-5 : tie.Need-returns-5
-returns-5 c =
-    let three = c .before .before in
-    let decide =
-    cells-left _ _ _ _ (three .before .before .if1 .left, three .before .if2 .left) (three .if3 .left)
-    (c .before .if4 .left) in
-    c .wrong .ensures ∙ ap outcome-of (sym decide)
+returns-2 : tie.Need-returns-2
+unfolding table-refusal
+returns-2 c =
+    let s = c .before in
+    go-passes _ (sizes (s .before .before)) _ (s .enum-told .given .1) (c .wrong .ensures)
 
 pub judge-spec : {M : Type 1} → statement M
 judge-spec =
-    tie.close (tie.spec returns returns-2 mul-if3 returns-3 returns-4 wrong-requires returns-5)
+    tie.close
+    (tie.spec
+    table-cells-requires
+    judge-sizes-requires
+    enum-told
+    enum-told-2
+    returns
+    wrong-requires
+    returns-2)

@@ -12,7 +12,8 @@ use Rattle.limits.proofs.TablePlaces.{square-small}
 use Rattle.refusals.specs.Refusals.{outcome-of}
 use Rattle.refusals.proofs.Answers.{outcome-answered, done-none, refused-some, written-refused}
 use Rattle.listings.specs.Operations.{listing-refusal}
-use Rattle.listings.proofs.ListingRefusal.{is-leaf-count, accepted-listing}
+use Rattle.checks.proofs.Sizes.{is-leaf-count}
+use Rattle.listings.proofs.ListingRefusal.{accepted-listing}
 use Rattle.tree_tables.specs.Operations.{gap-answer}
 use Rattle.tree_tables.proofs.TableAnswers.{count-refused, cells-refused, listing-refused, table-decides}
 use Rattle.tree_tables.proofs.TableAnswers.{gap-written}

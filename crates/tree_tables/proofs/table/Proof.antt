@@ -12,7 +12,8 @@ use Rattle.limits.proofs.TablePlaces.{square-small}
 use Rattle.refusals.specs.Refusals.{outcome-of}
 use Rattle.refusals.proofs.Answers.{outcome-answered, done-none, refused-some, written-refused}
 use Rattle.listings.specs.Operations.{listing-refusal}
-use Rattle.listings.proofs.ListingRefusal.{is-leaf-count, count-refused, accepted-listing}
+use Rattle.checks.proofs.Sizes.{is-leaf-count}
+use Rattle.listings.proofs.ListingRefusal.{count-refused, accepted-listing}
 use Rattle.tree_tables.specs.Operations.{table-answer}
 use Rattle.tree_tables.proofs.TableAnswers.{table-written}
 use Rattle.tree_tables.proofs.table.Statement.{statement}
