@@ -9,7 +9,7 @@ use native.Mathlib.Numerals.{add-one}
 use native.Mathlib.Omega.{arith}
 use native.Mathlib.Decide.{decLt}
 use borrow.Author.Tests.{lt-ltb, le-ltb}
-use lib.ListN.{length, set, drop}
+use lib.ListN.{length, getD, set, drop}
 use lib.Seq.{sets, length-sets, sets-eq}
 use Rattle.base.proofs.Lists.{sets-append}
 use Rattle.limits.specs.Limits.{IsLeafCount}
@@ -22,12 +22,11 @@ use Rattle.trees.proofs.Rules.{on-leaves, listing-tree}
 use Rattle.trees.proofs.Blocks.{post-order-length, number-node}
 use Rattle.trees.proofs.Listings.{tree-listing}
 use Rattle.listings.specs.Operations.{listing-refusal, standardise-answer}
-use Rattle.listings.specs.Standardising.{part, standard-first, standard-second, child-number, with-row, Leasts}
-use Rattle.listings.specs.Standardising.{AtNode}
-use Rattle.listings.specs.Standardising.{RowFits, SubtreeRowsFit, SubtreeRowsWritten}
+use Rattle.listings.specs.inner.Standardising.{part, standard-first, standard-second, child-number, with-row, InOrder}
+use Rattle.listings.specs.inner.Standardising.{AtNode}
+use Rattle.listings.specs.inner.Standardising.{RowFits, SubtreeRowsFit, SubtreeRowsWritten}
 use Rattle.listings.proofs.ListingRefusal.{accepted-listing}
 use Rattle.listings.proofs.Nodes.{part-leaf, part-node, first-below, second-below}
-use Rattle.listings.proofs.Leasts.{leasts-fewer}
 
 -- a node's rows, written: those of A, which end before row t, those of B, which end before row r, and its own
 write-node :
@@ -60,21 +59,22 @@ pub record Split (n : ℕ) (l : List ℕ) (v a b : ℕ) : Type 0 where
   pub second-low : b < v
 
 pub split-node :
-    {n : ℕ} {l leasts : List ℕ} {v : ℕ} (w : AtNode n l leasts v) {a b : ℕ} → a ≡ standard-first n l v
+    {n : ℕ} {l : List ℕ} {v : ℕ} (w : AtNode n l v) {a b : ℕ} → a ≡ standard-first n l v
     → b ≡ standard-second n l v → Split n l v a b
 split-node w ea eb =
     record { joins = rw (ea, eb) (part-node w); first-low = rw ea (first-below w); second-low = rw eb (second-below w) }
 
-module _ {n : ℕ} {l leasts : List ℕ} {v s : ℕ} {out : List ℕ} (g : SubtreeRowsFit n l leasts v s out) where
+module _ {n : ℕ} {l sorted : List ℕ} {v s : ℕ} {out : List ℕ} (g : SubtreeRowsFit n l sorted v s out) where
   -- a number from n on is a node's
-  pub node-at : (x : ℕ) → n ≤ x → x < 2 * n - 2 → AtNode n l leasts x
-  node-at x low high = record {
-    count = g .count;
-    keeps = g .keeps;
-    before-it = leasts-fewer n l leasts (2 * n - 2) x (omega arith) (g .all);
-    low = low;
-    high = high;
-  }
+  pub node-at : (x : ℕ) → n ≤ x → x < 2 * n - 2 → AtNode n l x
+  node-at x low high = record { count = g .count; keeps = g .keeps; low = low; high = high }
+
+  -- its children, as they stand in order
+  pub split-at :
+      n ≤ v → {a b : ℕ} → a ≡ getD sorted (2 * (v - n)) 0 → b ≡ getD sorted (2 * (v - n) + 1) 0 → Split n l v a b
+  split-at low ea eb =
+      split-node (node-at v low (g .inside)) (ea ∙ g .order .firsts v low (g .inside))
+      (eb ∙ g .order .seconds v low (g .inside))
 
   pub leaf-rows-written : v < n → SubtreeRowsWritten n l v s out out s
   leaf-rows-written h = is-leaf (part-leaf n l v h)
@@ -99,11 +99,11 @@ module _ {n : ℕ} {l leasts : List ℕ} {v s : ℕ} {out : List ℕ} (g : Subtr
   -- the rows of a child x may be written too, from row u on
   child-rows-fit :
       (x u : ℕ) (o : List ℕ) → x < v → u + size (part n l x) < n → length o ≡ length out
-      → SubtreeRowsFit n l leasts x u o
+      → SubtreeRowsFit n l sorted x u o
   child-rows-fit x u o low below long = record {
     count = g .count;
     keeps = g .keeps;
-    all = g .all;
+    order = g .order;
     inside = omega (arith, g .inside);
     below = below;
     room = omega (arith, g .room);
@@ -113,14 +113,14 @@ module _ {n : ℕ} {l leasts : List ℕ} {v s : ℕ} {out : List ℕ} (g : Subtr
     sizes : size (part n l v) ≡ size (part n l a) + size (part n l b)
     sizes = ap size (c .joins) ∙ size-node _ _
 
-    pub first-rows-fit : SubtreeRowsFit n l leasts a s out
+    pub first-rows-fit : SubtreeRowsFit n l sorted a s out
     first-rows-fit = child-rows-fit a s out (c .first-low) (omega (arith, sizes, g .below)) refl
 
     module _ {out₁ : List ℕ} {t : ℕ} (d : SubtreeRowsWritten n l a s out out₁ t) where
       long : length out₁ ≡ length out
       long = rw (d .rows) (length-sets out (2 * s) (post-order (part n l a) (n + s)))
 
-      pub second-rows-fit : SubtreeRowsFit n l leasts b t out₁
+      pub second-rows-fit : SubtreeRowsFit n l sorted b t out₁
       second-rows-fit = child-rows-fit b t out₁ (c .second-low) (omega (arith, sizes, g .below, d .next)) long
 
       module _ {out₂ : List ℕ} {r : ℕ} (e : SubtreeRowsWritten n l b t out₁ out₂ r) where
@@ -157,12 +157,12 @@ module _ (n : ℕ) (l : List ℕ) (count : IsLeafCount n) (keeps : KeepsRules n 
       drawn = drawn-on n _ (ordered-drawn n (tree-of n l) (on-leaves n l (count .0) keeps))
 
   pub whole-rows-fit :
-      (leasts out : List ℕ) → Leasts n l (2 * n - 2) leasts → 2 * (n - 2) ≤ length out
-      → SubtreeRowsFit n l leasts (2 * n - 3) 0 out
-  whole-rows-fit leasts out all room = record {
+      (sorted out : List ℕ) → InOrder n l (2 * n - 2) sorted → 2 * (n - 2) ≤ length out
+      → SubtreeRowsFit n l sorted (2 * n - 3) 0 out
+  whole-rows-fit sorted out order room = record {
     count = count;
     keeps = keeps;
-    all = all;
+    order = order;
     inside = omega (arith, count);
     below = omega (arith, whole-size);
     room = room;

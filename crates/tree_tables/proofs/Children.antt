@@ -14,7 +14,7 @@ use Rattle.trees.specs.Listings.{KeepsRules, subtree-at}
 use Rattle.trees.proofs.Trees.{size-node, size-count}
 use Rattle.trees.proofs.SubtreesByRow.{subtree-at-leaf, child-before, subtree-at-row, distinct-below}
 use Rattle.tree_tables.specs.Orders.{most-numbers}
-use Rattle.listings.specs.Standardising.{row-first, row-second}
+use Rattle.listings.specs.inner.Standardising.{row-first, row-second}
 
 pub record Row (n : ℕ) (l : List ℕ) (c : ℕ) : Type 0 where
   pub first : row-first n l c < c

@@ -22,7 +22,7 @@ use Rattle.trees.proofs.Trees.{size-node}
 use Rattle.trees.proofs.Rules.{child-in, place-keeps, place-kept}
 use Rattle.trees.proofs.SubtreesByRow.{subtree-at-leaf}
 use Rattle.tree_tables.specs.Orders.{most-numbers, most-sum, Prepared, whole, depth, at}
-use Rattle.listings.specs.Standardising.{row-first, row-second}
+use Rattle.listings.specs.inner.Standardising.{row-first, row-second}
 use Rattle.tree_tables.specs.Orders.{PlacedAt, LaidOut, ChildrenPlaced, NumbersPlaced}
 use Rattle.tree_tables.proofs.Children.{Row, row-subtree-at, size-le}
 

@@ -10,7 +10,7 @@ use Rattle.base.specs.Lists.{tab}
 use Rattle.limits.specs.Limits.{most-leaves, IsLeafCount}
 use Rattle.pair_counts.specs.Pairs.{P}
 use Rattle.trees.specs.Trees.{Tree, leaf, node, size}
-use Rattle.listings.specs.Standardising.{row-first, row-second}
+use Rattle.listings.specs.inner.Standardising.{row-first, row-second}
 use Rattle.trees.specs.Listings.{KeepsRules, subtree-at}
 
 -- a listing has fewer numbers than this, and no sum of pairs that branch off is larger than that

@@ -1,7 +1,7 @@
 -- `listings::standard::child_number` meets its contract: its test is the definition's, and no number reaches 256.
 use borrow.Author.Needs.{needs}
 use borrow.Author.Tests.{lt-ltb, le-ltb}
-use Rattle.listings.specs.Standardising.{child-number}
+use Rattle.listings.specs.inner.Standardising.{child-number}
 use Rattle.listings.proofs.standard.child_number.Statement.{statement}
 use Rattle.listings.proofs.standard.child_number.Tie as tie
 

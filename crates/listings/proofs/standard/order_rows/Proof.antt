@@ -1,0 +1,133 @@
+-- `listings::standard::order_rows` meets its contract. The loop's invariant: the least leaves under the numbers before v
+-- are known, and the children of the nodes before v stand in order.
+use mathlib.Core.Path.{_≡_, sym, _∙_}
+use Prim.Native.Nat.{_≤_, _*_, _-_}
+use native.Mathlib.Omega.{arith}
+use borrow.Author.Needs.{needs}
+use Rattle.listings.specs.inner.Standardising.{Leasts, InOrder, AtNode}
+use Rattle.listings.proofs.Nodes.{first-below, second-below, least-node}
+use Rattle.listings.proofs.Leasts.{leasts-more, order-none, order-more}
+use Rattle.listings.proofs.standard.order_rows.Statement.{statement}
+use Rattle.listings.proofs.standard.order_rows.Tie as tie
+
+abbrev Inv-loop : tie.InvT-loop
+Inv-loop n listing leasts₀ sorted₀ v₀ leasts sorted v =
+    (n ≤ v) × (v ≤ 2 * n - 2) × Leasts n listing v leasts × InOrder n listing v sorted
+
+abbrev μ-loop : tie.MeasureT-loop
+μ-loop n listing leasts₀ sorted₀ v₀ leasts sorted v = 2 * n - 2 - v
+
+-- the node of this turn
+at-node :
+    (c : tie.In-loop Inv-loop μ-loop)
+    → (let start = c .before .before .before in
+    AtNode (start .args .n) (start .args .listing .now) (c .before .loop .v))
+at-node c = record {
+  count = c .before .before .before .pre .0;
+  keeps = c .before .before .before .pre .1;
+  low = omega arith;
+  high = omega arith;
+}
+
+loop-holds : tie.Need-loop-holds Inv-loop μ-loop
+loop-holds c = (omega arith, omega arith, c .before .pre .2, order-none _ _ _ (c .before .pre .3))
+
+mul-loop : tie.Need-mul-loop Inv-loop μ-loop
+mul-loop c = search needs
+
+sub-loop : tie.Need-sub-loop Inv-loop μ-loop
+sub-loop c = search needs
+
+in-order-requires : tie.Need-in-order-requires Inv-loop μ-loop
+in-order-requires c κs = (at-node (c .before), c .before .before .loop .inv .2)
+
+sub-k : tie.Need-sub-k Inv-loop μ-loop
+sub-k c = search needs
+
+mul-k : tie.Need-mul-k Inv-loop μ-loop
+mul-k c = search needs
+
+mul-leasts : tie.Need-mul-leasts Inv-loop μ-loop
+mul-leasts c = omega (arith, c .in-order .ensures .0, first-below (at-node (c .before .before)))
+
+element-copy-out-leasts : tie.Need-element-copy-out-leasts Inv-loop μ-loop
+element-copy-out-leasts c = omega (arith, c .in-order .ensures .0, first-below (at-node (c .before .before)))
+
+mul-leasts-2 : tie.Need-mul-leasts-2 Inv-loop μ-loop
+mul-leasts-2 c = search needs
+
+element-write-leasts : tie.Need-element-write-leasts Inv-loop μ-loop
+element-write-leasts c = search needs
+
+cast-sorted : tie.Need-cast-sorted Inv-loop μ-loop
+cast-sorted c = omega (arith, c .before .in-order .ensures .0, first-below (at-node (c .before .before .before)))
+
+mul-sorted : tie.Need-mul-sorted Inv-loop μ-loop
+mul-sorted c = search needs
+
+element-write-sorted : tie.Need-element-write-sorted Inv-loop μ-loop
+element-write-sorted c = omega (arith, c .before .before .before .before .loop .inv .3 .long, at-node (c .before .before .before))
+
+cast-sorted-2 : tie.Need-cast-sorted-2 Inv-loop μ-loop
+cast-sorted-2 c = omega (arith, c .before .before .in-order .ensures .1, second-below (at-node (c .before .before .before .before)))
+
+add-sorted : tie.Need-add-sorted Inv-loop μ-loop
+add-sorted c = search needs
+
+mul-sorted-2 : tie.Need-mul-sorted-2 Inv-loop μ-loop
+mul-sorted-2 c = search needs
+
+element-write-sorted-2 : tie.Need-element-write-sorted-2 Inv-loop μ-loop
+element-write-sorted-2 c = omega (arith, c .before .before .before .before .before .loop .inv .3 .long, at-node (c .before .before .before .before))
+
+add-v : tie.Need-add-v Inv-loop μ-loop
+add-v c = search needs
+
+loop-less : tie.Need-loop-less Inv-loop μ-loop
+loop-less c = search needs
+
+loop-again : tie.Need-loop-again Inv-loop μ-loop
+loop-again c =
+    let w = at-node (c .before .before .before .before) in
+    let inv = c .before .before .before .before .before .loop .inv in
+    let made = c .before .before .in-order .ensures in
+    let least-first = inv .2 .is _ (first-below w) ∙ sym (least-node w) in (
+      omega arith,
+      omega arith,
+      leasts-more _ _ _ _ _ (omega arith) (rw (made .0) least-first) (inv .2),
+      order-more _ _ _ _ _ _ (w .low) (omega arith) (made .0) (made .1) (inv .3),
+    )
+
+returns : tie.Need-returns Inv-loop μ-loop
+returns c =
+    let l = c .before .loop in
+    let end : l .v ≡ 2 * c .before .before .before .args .n - 2 = omega arith in
+    rw end at (l .inv .3)
+
+pub order-rows-spec : {M : Type 1} → statement M
+order-rows-spec =
+    tie.close
+    (tie.spec
+    Inv-loop
+    μ-loop
+    loop-holds
+    mul-loop
+    sub-loop
+    in-order-requires
+    sub-k
+    mul-k
+    mul-leasts
+    element-copy-out-leasts
+    mul-leasts-2
+    element-write-leasts
+    cast-sorted
+    mul-sorted
+    element-write-sorted
+    cast-sorted-2
+    add-sorted
+    mul-sorted-2
+    element-write-sorted-2
+    add-v
+    loop-less
+    loop-again
+    returns)
