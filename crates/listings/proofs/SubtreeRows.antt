@@ -9,10 +9,10 @@ use native.Mathlib.Numerals.{add-one}
 use native.Mathlib.Omega.{arith}
 use native.Mathlib.Decide.{decLt}
 use borrow.Author.Tests.{lt-ltb, le-ltb}
-use lib.ListN.{length, getD, set, drop}
-use lib.Seq.{sets, length-sets, sets-eq}
+use lib.ListN.{length, getD, set, take, drop}
+use lib.Seq.{sets, length-sets, sets-eq, take-at}
 use Rattle.base.proofs.Lists.{sets-append}
-use Rattle.limits.specs.Limits.{IsLeafCount}
+use Rattle.limits.specs.Limits.{IsLeafCount, most-numbers}
 use Rattle.refusals.specs.Refusals.{written}
 use Rattle.refusals.proofs.Answers.{written-done}
 use Rattle.trees.specs.Trees.{Tree, leaf, node, size, ordered}
@@ -25,7 +25,7 @@ use Rattle.listings.specs.Operations.{listing-refusal, standardise-answe
 use Rattle.listings.specs.inner.Standardising.{part, standard-first, standard-second, child-number, with-row, InOrder}
 use Rattle.listings.specs.inner.Standardising.{AtNode}
 use Rattle.listings.specs.inner.Standardising.{RowFits, SubtreeRowsFit, SubtreeRowsWritten}
-use Rattle.listings.proofs.ListingRefusal.{accepted-listing}
+use Rattle.listings.proofs.ListingRefusal.{accepted-listing, rules-left}
 use Rattle.listings.proofs.Nodes.{part-leaf, part-node, first-below, second-below}
 
 -- a node's rows, written: those of A, which end before row t, those of B, which end before row r, and its own
@@ -195,3 +195,13 @@ pub standard-written :
     → written (standardise-answer n l (length out)) out ≡ standard n (tree-of n l) ++ drop (2 * (n - 2)) out
 unfolding standardise-answer
 standard-written n l out h = written-done _ _ out h ∙ sym (standard-end n l out _ _ h refl)
+
+-- rows lent for the standard listing: there is room for it, and then it stands at their front
+pub rows-lent :
+    (n : ℕ) (l out : List ℕ) → IsLeafCount n → KeepsRules n l → length out ≡ most-numbers
+    → take (2 * (n - 2)) (written (standardise-answer n l (length out)) out) ≡ standard n (tree-of n l)
+rows-lent n l out c k e =
+    rw (standard-written n l out room) (take-at (standard n (tree-of n l)) _ (2 * (n - 2)) (standard-length n l c k))
+  where
+    room : listing-refusal n l (2 * (n - 2)) (length out) ≡ none
+    room = rules-left n l _ _ c (k .numbers) (omega (arith, c .1)) ∙ k .rules

@@ -1,6 +1,5 @@
 // The splits of a tree, written as leaf sets.
 use refusals::Outcome;
-use refusals::Refusal;
 ghost use mathlib.Core.Path.{_≡_};
 ghost use lib.ListN.{length};
 ghost use Rattle.refusals.specs.Refusals.{outcome, written};
@@ -15,10 +14,7 @@ pub fn splits(n: usize, listing: &[u16], out: &mut [u8]) -> Outcome
     ensures buffer { λ r. ⌜ now (out .exit)
         ≡ written (splits-answer n (now (listing .entry)) (length (now (out .entry)))) (now (out .entry)) ⌝ }
 {
-    if !checks::leaf_count(n) {
-        return Outcome::Refused(Refusal::LeafCount);
-    }
-    let judged = listings::judge(n, listing, limits::SET_BYTES * (n - 3), out.len());
+    let judged = listings::judge(n, listing, checks::split_bytes(n), out.len());
     let Outcome::Done = judged else {
         return judged;
     };

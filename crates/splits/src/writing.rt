@@ -3,7 +3,7 @@ use crate::sets::single;
 use crate::sets::union;
 use limits::MOST_NODES;
 use limits::SET_BYTES;
-use numbers::index_of_u16;
+use listings::row_at;
 ghost use mathlib.Core.Path.{_≡_};
 ghost use mathlib.Core.List.{_++_};
 ghost use Prim.Native.Nat.{ℕ, _+_, _-_, _*_, _≤_, _<_};
@@ -47,8 +47,11 @@ pub(crate) fn write_splits(n: usize, rows: &[u16], out: &mut [u8])
     let mut sets = leaf_sets(n);
     let mut k = 0;
     while k < n - 3 {
-        let a = sets[index_of_u16(rows[2 * k])];
-        let b = sets[index_of_u16(rows[2 * k + 1])];
+        let r = row_at(rows, k);
+        let i = r.first;
+        let j = r.second;
+        let a = sets[i];
+        let b = sets[j];
         let s = union(a, b);
         sets[n + k] = s;
         put_set(out, SET_BYTES * k, s);
