@@ -2,3 +2,4 @@ pub mod Bools
 pub mod Counts
 pub mod Lists
 pub mod Filling
+pub mod Searches

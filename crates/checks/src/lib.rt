@@ -13,6 +13,8 @@ ghost use Rattle.limits.specs.Limits.{IsLeafCount, set-bytes};
 ghost use Rattle.refusals.specs.Refusals.{outcome-of};
 ghost use Rattle.checks.specs.Sizes.{within-range, right-count, input-refusal, sizes-refusal};
 
+pub mod questions;
+
 // Whether a number is at least `low` and at most `high`.
 fn within(low: usize, n: usize, high: usize) -> bool
     ensures { λ r. ⌜ r ≡ within-range low n high ⌝ }

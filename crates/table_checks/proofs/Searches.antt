@@ -1,9 +1,8 @@
--- The searches of the checks 4 and 5, step by step: what is found from a place on is what stands there, or what is
--- found from the next place on. So a loop that keeps "found from here is found from the start" ends with the answer.
-use mathlib.Core.Path.{_≡_, refl, ap, _∙_}
+-- The searches of the checks 4 and 5, step by step.
+use mathlib.Core.Path.{_≡_, refl, _∙_}
 use mathlib.Core.Logic.{_≢_}
-use mathlib.Core.Bool.{Bool, true, false, not, _&&_}
-use mathlib.Core.List.{List, _∷_}
+use mathlib.Core.Bool.{Bool, false, not, _&&_}
+use mathlib.Core.List.{List}
 use mathlib.Core.Option.{Option, none, some}
 use Prim.Native.Nat.{ℕ, zero, suc, _+_, _*_, _/_, _%_, _≤_, _<_}
 use native.Mathlib.Nat.{add-zero}
@@ -11,29 +10,12 @@ use native.Mathlib.Numerals.{add-one}
 use native.Mathlib.Omega.{arith}
 use borrow.Author.Tests.{eq-eqb, ne-eqb, lt-ltb, le-ltb}
 use lib.Dec.{ltb, eqb}
-use lib.ListN.{drop, drop-of-length-le}
-use lib.Seq.{drop-cons}
+use lib.ListN.{drop}
 use Rattle.base.specs.Lists.{tab, in-rows, find}
-use Rattle.base.proofs.Lists.{length-tab, getD-tab, row-of, column-of, place}
+use Rattle.base.proofs.Lists.{row-of, column-of, place}
+use Rattle.base.proofs.Searches.{find-here, find-on, find-end}
 use Rattle.trees.specs.Tables.{cell, first-filled, first-unequal}
 use Rattle.table_checks.specs.Checks.{unequal-from}
-
--- A search through f 0, .., f (n − 1), from place k on.
-module _ {A : Type 0} (test : A → Bool) (n : ℕ) (f : ℕ → A) where
-  rest : (k : ℕ) → k < n → drop k (tab n f) ≡ f k ∷ drop (k + 1) (tab n f)
-  rest k l =
-      drop-cons (tab n f) k (f k) (rw length-tab l) ∙ rw (getD-tab n f k (f k) l, add-one)
-
-  find-here : (k : ℕ) → k < n → test (f k) ≡ true → find test (drop k (tab n f)) ≡ some (f k)
-  find-here k l t = ap (find test) (rest k l) ∙ (unfold find in rw (t, find))
-
-  find-on :
-      (k : ℕ) → k < n → test (f k) ≡ false → find test (drop k (tab n f)) ≡ find test (drop (k + 1) (tab n f))
-  find-on k l t = ap (find test) (rest k l) ∙ (unfold find in rw (t, find))
-
-  find-end : (k : ℕ) → n ≤ k → find test (drop k (tab n f)) ≡ none
-  find-end k l =
-      ap (find test) (drop-of-length-le (tab n f) {i = k} (rw length-tab l)) ∙ (unfold find in refl)
 
 -- The diagonal: the first leaf from i on whose cell is not 0.
 unfoldable pub filled-from : ℕ → List ℕ → ℕ → Option ℕ
