@@ -1,74 +1,28 @@
--- Sums over the numbers below n, over two of them, and over four: what is 0 but at two of the four is a sum over the
--- other two. And the sum over all quartets is one over all four numbers, with 0 where they do not rise.
-use mathlib.Core.Path.{_≡_, refl, ap, sym, _∙_}
+-- Sums over four numbers below n: what is 0 but at two of the four is a sum over the other two. And the sum over all
+-- quartets is one over all four numbers, with 0 where they do not rise.
+use mathlib.Core.Path.{_≡_, refl, ap, _∙_}
 use mathlib.Core.Logic.{_⊎_, inl, inr, _≢_}
-use mathlib.Core.Bool.{Bool, true, false, _&&_}
+use mathlib.Core.Bool.{Bool, true, _&&_}
 use mathlib.Core.List.{List, [], _∷_, _++_, map, flatMap}
 use Prim.Native.Nat.{ℕ, zero, suc, _+_, _-_, _<_}
 use native.Mathlib.Nat.{sub-zero, zero-add}
 use native.Mathlib.Omega.{arith}
-use native.Mathlib.Decide.{decLt, ℕ-discrete}
 use borrow.Author.Tests.{ltb-true, lt-ltb, le-ltb}
 use lib.Dec.{ltb}
-use Rattle.base.specs.Numbers.{indicator, count-below, sum-below}
+use Rattle.base.specs.Numbers.{indicator, sum-below}
 use Rattle.base.specs.Lists.{tab}
 use Rattle.base.proofs.Bools.{and-both}
+use Rattle.base.proofs.Counts.{indicator-add}
+use Rattle.base.proofs.Sums.{sum-ext, zero-sum, sum-add, sum-only, count-sum, indicator-sum, indicator-each, sum-above}
+use Rattle.base.proofs.Sums.{sum2, sum2-ext, sum2-add, zero-sum2}
 use Rattle.pair_counts.specs.Pairs.{pairs-below}
 use Rattle.pair_counts.proofs.Pairs.{pairs-suc}
 use Rattle.polls.specs.declared.judging.Quartet.{Quartet}
 use Rattle.polls.specs.Records.{from, four, with-three, with-two, with-one, quartets-of}
 
--- what is gained: nothing of 0, a sum by parts, where the test holds
-pub gain-none : (b : Bool) → indicator b 0 ≡ 0
-gain-none true = refl
-gain-none false = refl
-
-gain-add : (b : Bool) (x y : ℕ) → indicator b (x + y) ≡ indicator b x + indicator b y
-gain-add true x y = refl
-gain-add false x y = refl
-
-pub gain-when : (b : Bool) (x y : ℕ) → (b ≡ true → x ≡ y) → indicator b x ≡ indicator b y
-gain-when true x y h = h refl
-gain-when false x y h = refl
-
-sum-ext : (n : ℕ) (f g : ℕ → ℕ) → ((k : ℕ) → k < n → f k ≡ g k) → sum-below n f ≡ sum-below n g
-unfolding sum-below
-sum-ext zero f g h = refl
-sum-ext (suc n) f g h = rw (sum-ext n f g (λ k l. h k (omega arith)), h n (omega arith))
-
-sum-zero : (n : ℕ) (f : ℕ → ℕ) → ((k : ℕ) → k < n → f k ≡ 0) → sum-below n f ≡ 0
-unfolding sum-below
-sum-zero zero f h = refl
-sum-zero (suc n) f h = omega (arith, sum-zero n f (λ k l. h k (omega arith)), h n (omega arith))
-
-sum-add : (n : ℕ) (f g : ℕ → ℕ) → sum-below n (λ k. f k + g k) ≡ sum-below n f + sum-below n g
-unfolding sum-below
-sum-add zero f g = refl
-sum-add (suc n) f g = omega (arith, sum-add n f g)
-
--- what is 0 but at i
-sum-only : (n i : ℕ) (f : ℕ → ℕ) → i < n → ((k : ℕ) → k ≢ i → f k ≡ 0) → sum-below n f ≡ f i
-unfolding sum-below
-sum-only zero i f l h = absurd (omega arith)
-sum-only (suc n) i f l h = elim (ℕ-discrete n i) [
-  | yes e ↦ rw (← e) (omega (arith, sum-zero n f (λ k m. h k (λ d. omega arith))))
-  | no d ↦ omega (arith, sum-only n i f (omega arith) h, h n d)
-]
-
-gain-sum : (b : Bool) (n : ℕ) (f : ℕ → ℕ) → indicator b (sum-below n f) ≡ sum-below n (λ k. indicator b (f k))
-gain-sum true n f = refl
-gain-sum false n f = sym (sum-zero n (λ k. 0) (λ k l. refl))
-
--- over two, and over four
-abbrev pub sum2 : ℕ → (ℕ → ℕ → ℕ) → ℕ
-sum2 n f = sum-below n (λ p. sum-below n (λ q. f p q))
-
+-- over four
 abbrev sum4 : ℕ → (ℕ → ℕ → ℕ → ℕ → ℕ) → ℕ
 sum4 n f = sum2 n (λ a b. sum2 n (λ c d. f a b c d))
-
-pub sum2-ext : (n : ℕ) (f g : ℕ → ℕ → ℕ) → ((p q : ℕ) → p < n → q < n → f p q ≡ g p q) → sum2 n f ≡ sum2 n g
-sum2-ext n f g h =
-    sum-ext n (λ p. sum-below n (f p)) (λ p. sum-below n (g p)) (λ p l. sum-ext n (f p) (g p) (λ q m. h p q l m))
 
 pub sum4-ext :
     (n : ℕ) (f g : ℕ → ℕ → ℕ → ℕ → ℕ)
@@ -76,12 +30,6 @@ pub sum4-ext :
 sum4-ext n f g h =
     sum2-ext n (λ a b. sum2 n (f a b)) (λ a b. sum2 n (g a b)) (λ a b la lb.
     sum2-ext n (f a b) (g a b) (λ c d lc ld. h a b c d la lb lc ld))
-
-sum2-add : (n : ℕ) (f g : ℕ → ℕ → ℕ) → sum2 n (λ p q. f p q + g p q) ≡ sum2 n f + sum2 n g
-sum2-add n f g =
-    sum-ext n (λ p. sum-below n (λ q. f p q + g p q)) (λ p. sum-below n (f p) + sum-below n (g p))
-    (λ p l. sum-add n (f p) (g p))
-    ∙ sum-add n (λ p. sum-below n (f p)) (λ p. sum-below n (g p))
 
 sum4-add :
     (n : ℕ) (f g : ℕ → ℕ → ℕ → ℕ → ℕ) → sum4 n (λ a b c d. f a b c d + g a b c d) ≡ sum4 n f + sum4 n g
@@ -99,11 +47,8 @@ sum2-six n f g h k l m =
     sum2-add n (λ p q. f p q + g p q) (λ p q. (h p q + k p q) + (l p q + m p q))
     ∙ rw (sum2-add n f g, sum2-add n (λ p q. h p q + k p q) (λ p q. l p q + m p q), sum2-add n h k, sum2-add n l m)
 
-sum2-zero : (n : ℕ) (f : ℕ → ℕ → ℕ) → ((p q : ℕ) → f p q ≡ 0) → sum2 n f ≡ 0
-sum2-zero n f h = sum-zero n (λ p. sum-below n (f p)) (λ p l. sum-zero n (f p) (λ q m. h p q))
-
 pub sum4-zero : (n : ℕ) (f : ℕ → ℕ → ℕ → ℕ → ℕ) → ((a b c d : ℕ) → f a b c d ≡ 0) → sum4 n f ≡ 0
-sum4-zero n f h = sum2-zero n (λ a b. sum2 n (f a b)) (λ a b. sum2-zero n (f a b) (h a b))
+sum4-zero n f h = zero-sum2 n (λ a b. sum2 n (f a b)) (λ a b. zero-sum2 n (f a b) (h a b))
 
 -- What is 0 but at two of the four.
 module _ (n i j : ℕ) (hi : i < n) (hj : j < n) (f : ℕ → ℕ → ℕ → ℕ → ℕ) where
@@ -111,46 +56,40 @@ module _ (n i j : ℕ) (hi : i < n) (hj : j < n) (f : ℕ → ℕ → ℕ → �
   pub only-ab :
       ((a b c d : ℕ) → (a ≢ i) ⊎ (b ≢ j) → f a b c d ≡ 0) → sum4 n f ≡ sum2 n (λ c d. f i j c d)
   only-ab h =
-      sum-only n i _ hi (λ a e. sum-zero n _ (λ b l. sum2-zero n _ (λ c d. h a b c d (inl e))))
-      ∙ sum-only n j _ hj (λ b e. sum2-zero n _ (λ c d. h i b c d (inr e)))
+      sum-only n i _ hi (λ a e. zero-sum n _ (λ b l. zero-sum2 n _ (λ c d. h a b c d (inl e))))
+      ∙ sum-only n j _ hj (λ b e. zero-sum2 n _ (λ c d. h i b c d (inr e)))
 
   pub only-ac :
       ((a b c d : ℕ) → (a ≢ i) ⊎ (c ≢ j) → f a b c d ≡ 0) → sum4 n f ≡ sum2 n (λ b d. f i b j d)
   only-ac h =
-      sum-only n i _ hi (λ a e. sum-zero n _ (λ b l. sum2-zero n _ (λ c d. h a b c d (inl e))))
-      ∙ sum-ext n _ _ (λ b l. sum-only n j _ hj (λ c e. sum-zero n _ (λ d m. h i b c d (inr e))))
+      sum-only n i _ hi (λ a e. zero-sum n _ (λ b l. zero-sum2 n _ (λ c d. h a b c d (inl e))))
+      ∙ sum-ext n _ _ (λ b l. sum-only n j _ hj (λ c e. zero-sum n _ (λ d m. h i b c d (inr e))))
 
   pub only-ad :
       ((a b c d : ℕ) → (a ≢ i) ⊎ (d ≢ j) → f a b c d ≡ 0) → sum4 n f ≡ sum2 n (λ b c. f i b c j)
   only-ad h =
-      sum-only n i _ hi (λ a e. sum-zero n _ (λ b l. sum2-zero n _ (λ c d. h a b c d (inl e))))
+      sum-only n i _ hi (λ a e. zero-sum n _ (λ b l. zero-sum2 n _ (λ c d. h a b c d (inl e))))
       ∙ sum2-ext n _ _ (λ b c l m. sum-only n j _ hj (λ d e. h i b c d (inr e)))
 
   pub only-bc :
       ((a b c d : ℕ) → (b ≢ i) ⊎ (c ≢ j) → f a b c d ≡ 0) → sum4 n f ≡ sum2 n (λ a d. f a i j d)
   only-bc h = sum-ext n _ _ (λ a l.
-      sum-only n i _ hi (λ b e. sum2-zero n _ (λ c d. h a b c d (inl e)))
-      ∙ sum-only n j _ hj (λ c e. sum-zero n _ (λ d m. h a i c d (inr e))))
+      sum-only n i _ hi (λ b e. zero-sum2 n _ (λ c d. h a b c d (inl e)))
+      ∙ sum-only n j _ hj (λ c e. zero-sum n _ (λ d m. h a i c d (inr e))))
 
   pub only-bd :
       ((a b c d : ℕ) → (b ≢ i) ⊎ (d ≢ j) → f a b c d ≡ 0) → sum4 n f ≡ sum2 n (λ a c. f a i c j)
   only-bd h = sum-ext n _ _ (λ a l.
-      sum-only n i _ hi (λ b e. sum2-zero n _ (λ c d. h a b c d (inl e)))
+      sum-only n i _ hi (λ b e. zero-sum2 n _ (λ c d. h a b c d (inl e)))
       ∙ sum-ext n _ _ (λ c m. sum-only n j _ hj (λ d e. h a i c d (inr e))))
 
   pub only-cd :
       ((a b c d : ℕ) → (c ≢ i) ⊎ (d ≢ j) → f a b c d ≡ 0) → sum4 n f ≡ sum2 n (λ a b. f a b i j)
   only-cd h = sum2-ext n _ _ (λ a b l m.
-      sum-only n i _ hi (λ c e. sum-zero n _ (λ d k. h a b c d (inl e)))
+      sum-only n i _ hi (λ c e. zero-sum n _ (λ d k. h a b c d (inl e)))
       ∙ sum-only n j _ hj (λ d e. h a b i d (inr e)))
 
--- how many pass, as a sum: of numbers, and of pairs
-count-sum : (n : ℕ) (f : ℕ → Bool) → count-below n f ≡ sum-below n (λ k. indicator (f k) 1)
-unfolding count-below sum-below
-count-sum zero f = refl
-count-sum (suc n) f = rw (count-sum n f)
-
--- 1 where p < q, and they pass
+-- how many pairs pass, as a sum: 1 where p < q, and they pass
 abbrev in-pair : (ℕ → ℕ → Bool) → ℕ → ℕ → ℕ
 in-pair f p q = indicator (ltb p q) (indicator (f p q) 1)
 
@@ -163,7 +102,7 @@ pairs-sum (suc n) f =
     (arith, pairs-sum n f, sum-add n (λ p. sum-below n (in-pair f p)) (λ p. in-pair f p n), last-row, last-column))
   where
     last-row : sum-below (suc n) (in-pair f n) ≡ 0
-    last-row = sum-zero (suc n) (in-pair f n) (λ q l. rw (le-ltb n q (omega arith)))
+    last-row = zero-sum (suc n) (in-pair f n) (λ q l. rw (le-ltb n q (omega arith)))
 
     last-column : sum-below n (λ p. in-pair f p n) ≡ sum-below n (λ p. indicator (f p n) 1)
     last-column = sum-ext n _ _ (λ p l. rw (lt-ltb p n l))
@@ -206,22 +145,6 @@ unfolding total sum-below tab flatMap
 total-flat f g h zero = refl
 total-flat f g h (suc m) = total-flat-more f g (tab m h) (h m) ∙ rw (total-flat f g h m)
 
--- the numbers above i
-sum-above :
-    (n i : ℕ) (f : ℕ → ℕ) → sum-below (n - (i + 1)) (λ k. f (i + 1 + k)) ≡ sum-below n (λ k. indicator (ltb i k) (f k))
-unfolding sum-below
-sum-above zero i f = let e : 0 - (i + 1) ≡ 0 = omega arith in rw e
-sum-above (suc n) i f = elim (decLt i n) [
-  | yes l ↦
-      let e : suc n - (i + 1) ≡ suc (n - (i + 1)) = omega arith in
-      let last : i + 1 + (n - (i + 1)) ≡ n = omega arith in
-      rw (e, lt-ltb i n l, last, sum-above n i f)
-  | no g ↦
-      let e : suc n - (i + 1) ≡ 0 = omega arith in
-      let d : n - (i + 1) ≡ 0 = omega arith in
-      rw (e, le-ltb i n (omega arith)) (omega (arith, rw d at (sum-above n i f)))
-]
-
 -- a < b < c < d
 abbrev pub rising : (a b c d : ℕ) → Bool
 rising a b c d = ltb a b && (ltb b c && ltb c d)
@@ -239,7 +162,7 @@ over n f = sum4 n (λ a b c d. indicator (rising a b c d) (f a b c d))
 over-add :
     (n : ℕ) (f g : ℕ → ℕ → ℕ → ℕ → ℕ) → over n (λ a b c d. f a b c d + g a b c d) ≡ over n f + over n g
 over-add n f g =
-    sum4-ext n _ _ (λ a b c d la lb lc ld. gain-add (rising a b c d) (f a b c d) (g a b c d)) ∙ sum4-add n _ _
+    sum4-ext n _ _ (λ a b c d la lb lc ld. indicator-add (rising a b c d) (f a b c d) (g a b c d)) ∙ sum4-add n _ _
 
 pub over-six :
     (n : ℕ) (f g h k l m : ℕ → ℕ → ℕ → ℕ → ℕ)
@@ -253,16 +176,6 @@ over-six n f g h k l m =
       over-add n h k,
       over-add n l m,
     )
-
-gain-and : (x y : Bool) (k : ℕ) → indicator x (indicator y k) ≡ indicator (x && y) k
-gain-and true y k = refl
-gain-and false y k = refl
-
--- a test before the sum, and one of each member
-gain-each :
-    (x : Bool) (n : ℕ) (y : ℕ → Bool) (f : ℕ → ℕ)
-    → indicator x (sum-below n (λ k. indicator (y k) (f k))) ≡ sum-below n (λ k. indicator (x && y k) (f k))
-gain-each x n y f = gain-sum x n _ ∙ sum-ext n _ _ (λ k l. gain-and x (y k) (f k))
 
 -- The quartets that begin with a, b, c; with a, b; with a; all.
 module _ (n : ℕ) (f : Quartet → ℕ) where
@@ -278,7 +191,7 @@ module _ (n : ℕ) (f : Quartet → ℕ) where
       total-flat f (with-three n a b) (λ k. b + 1 + k) (n - (b + 1))
       ∙ sum-above n b (λ c. total f (with-three n a b c))
       ∙ sum-ext n _ _ (λ c l.
-      ap (indicator (ltb b c)) (total-three a b c) ∙ gain-each (ltb b c) n (ltb c) (λ d. f (four a b c d)))
+      ap (indicator (ltb b c)) (total-three a b c) ∙ indicator-each (ltb b c) n (ltb c) (λ d. f (four a b c d)))
 
   total-one :
       (a : ℕ) → total f (with-one n a)
@@ -289,8 +202,8 @@ module _ (n : ℕ) (f : Quartet → ℕ) where
       ∙ sum-above n a (λ b. total f (with-two n a b))
       ∙ sum-ext n _ _ (λ b l.
       ap (indicator (ltb a b)) (total-two a b)
-      ∙ gain-sum (ltb a b) n _
-      ∙ sum-ext n _ _ (λ c m. gain-each (ltb a b) n (λ d. ltb b c && ltb c d) (λ d. f (four a b c d))))
+      ∙ indicator-sum (ltb a b) n _
+      ∙ sum-ext n _ _ (λ c m. indicator-each (ltb a b) n (λ d. ltb b c && ltb c d) (λ d. f (four a b c d))))
 
   pub total-sum : total f (quartets-of n) ≡ over n (λ a b c d. f (four a b c d))
   unfolding quartets-of from

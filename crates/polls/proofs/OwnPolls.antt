@@ -17,7 +17,8 @@ use lib.ListN.{length}
 use Rattle.base.specs.Numbers.{indicator}
 use Rattle.base.specs.Lists.{all-in}
 use Rattle.base.proofs.Bools.{bool?, never, is-false, or-none, and-both, and-is, eqb-same}
-use Rattle.base.proofs.Counts.{indicator-or}
+use Rattle.base.proofs.Counts.{indicator-or, indicator-none, indicator-when}
+use Rattle.base.proofs.Sums.{sum2, sum2-ext}
 use Rattle.base.proofs.Lists.{tab-same}
 use Rattle.trees.specs.Trees.{Tree, IsTree}
 use Rattle.trees.specs.Quartets.{separates, paired, pairing, other, quartets}
@@ -36,7 +37,7 @@ use Rattle.polls.proofs.Counts.{of-four, adds-code, pairs-apart, poll-m
 use Rattle.polls.proofs.Records.{passes-of, same-leaves}
 use Rattle.polls.proofs.Quartets.{quartets-count}
 use Rattle.polls.proofs.Operations.{sizes-pass}
-use Rattle.polls.proofs.FourSums.{gain-none, gain-when, sum2, sum2-ext, sum2-six, sum4-ext, sum4-zero, pairs-sum}
+use Rattle.polls.proofs.FourSums.{sum2-six, sum4-ext, sum4-zero, pairs-sum}
 use Rattle.polls.proofs.FourSums.{only-ab, only-ac, only-ad, only-bc, only-bd, only-cd, total, total-sum}
 use Rattle.polls.proofs.FourSums.{rising, rising-lt, over, over-six}
 use Rattle.polls.proofs.Orders.{orders, no-order, one-order}
@@ -186,7 +187,7 @@ module _ (n : ℕ) (T : Tree) (t : IsTree n T) (i j : ℕ) (ij : i < j) (jn : j 
           cell-rising z w i j zw ij,
         )
     | inr e ↦
-        rw (hit x y z w, hit z w x y, ← paired-either T x y z w, e, gain-none (hits x y), gain-none (hits z w))
+        rw (hit x y z w, hit z w x y, ← paired-either T x y z w, e, indicator-none (hits x y), indicator-none (hits z w))
   ]
 
   own-either :
@@ -212,7 +213,7 @@ module _ (n : ℕ) (T : Tree) (t : IsTree n T) (i j : ℕ) (ij : i < j) (jn : j 
   own-over : total (own-adds T i j) (quartets-of n)
       ≡ over n (λ a b c d. either a b c d + (either a c b d + either a d b c))
   own-over = total-sum n (own-adds T i j) ∙ sum4-ext n _ _ (λ a b c d la lb lc ld.
-      gain-when (rising a b c d) _ _ (λ r. own-either a b c d (leaves-rise n a b c d r ld)))
+      indicator-when (rising a b c d) _ _ (λ r. own-either a b c d (leaves-rise n a b c d r ld)))
 
   miss : (x y : ℕ) → (x ≢ i) ⊎ (y ≢ j) → hits x y ≡ false
   miss x y h = is-false (hits x y) (λ e. let r = both-are i j x y e in elim h [
@@ -221,7 +222,7 @@ module _ (n : ℕ) (T : Tree) (t : IsTree n T) (i j : ℕ) (ij : i < j) (jn : j 
   ])
 
   gone : (a b c d x y k : ℕ) → (x ≢ i) ⊎ (y ≢ j) → indicator (rising a b c d) (indicator (hits x y) k) ≡ 0
-  gone a b c d x y k h = rw (miss x y h) (gain-none (rising a b c d))
+  gone a b c d x y k h = rw (miss x y h) (indicator-none (rising a b c d))
 
   here : hits i j ≡ true
   here = and-is _ _ (eqb-same i) (eqb-same j)
@@ -269,7 +270,7 @@ module _ (n : ℕ) (T : Tree) (t : IsTree n T) (i j : ℕ) (ij : i < j) (jn : j 
       → orders i j ij p q (against p q)
       ≡ indicator (ltb p q) (indicator ((other i j p && other i j q) && paired T i j p q) 1)
   orders-pass p q = elim (bool? (paired T i j p q)) [
-    | inr u ↦ rw (u, and-false (other i j p && other i j q), gain-none (ltb p q)) (simp gain-none)
+    | inr u ↦ rw (u, and-false (other i j p && other i j q), indicator-none (ltb p q)) (simp indicator-none)
     | inl h ↦ elim (bool? (ltb p q)) [
       | inl l ↦ rw (h, and-true (other i j p && other i j q)) (one-order i j ij p q (ltb-true p q l) ∙ rw l)
       | inr g ↦ no-order i j ij p q (against p q) g ∙ rw g
@@ -287,7 +288,7 @@ diagonal-total : (n : ℕ) (T : Tree) (i : ℕ) → total (own-adds T i i) (quar
 diagonal-total n T i =
     total-sum n (own-adds T i i)
     ∙ sum4-zero n _ (λ a b c d.
-    gain-when (rising a b c d) _ 0 (own-diagonal T i a b c d) ∙ gain-none (rising a b c d))
+    indicator-when (rising a b c d) _ 0 (own-diagonal T i a b c d) ∙ indicator-none (rising a b c d))
 
 -- A poll of n leaves whose records pass and have the own pairings of the tree T.
 module _ (n : ℕ) (T : Tree) (t : IsTree n T) (R : List Record) (due : length R ≡ length (quartets-of n))

@@ -10,6 +10,7 @@ use native.Mathlib.Omega.{arith}
 use lib.ListN.{length}
 use Rattle.base.specs.Numbers.{indicator}
 use Rattle.base.proofs.Bools.{bool?}
+use Rattle.base.proofs.Counts.{indicator-none, indicator-when}
 use Rattle.trees.specs.Tables.{IsTable}
 use Rattle.trees.proofs.Tables.{rule-is-table}
 use Rattle.refusals.specs.Refusals.{accepted}
@@ -23,7 +24,7 @@ use Rattle.polls.proofs.Counts.{adds-code, adds-le, poll-mirror}
 use Rattle.polls.proofs.Records.{passes-of, same-leaves}
 use Rattle.polls.proofs.Quartets.{quartets-count}
 use Rattle.polls.proofs.Operations.{sizes-pass}
-use Rattle.polls.proofs.FourSums.{gain-none, gain-when, sum4-zero, total, total-sum, rising, rising-lt}
+use Rattle.polls.proofs.FourSums.{sum4-zero, total, total-sum, rising, rising-lt}
 use Rattle.polls.proofs.OwnPolls.{code-diagonal}
 
 -- 1 for a quartet whose leaves do not rise
@@ -35,7 +36,7 @@ none-unrising : (n : ℕ) → total unrising (quartets-of n) ≡ 0
 unfolding unrising
 none-unrising n =
     total-sum n unrising
-    ∙ sum4-zero n _ (λ a b c d. gain-when (rising a b c d) _ 0 (λ r. rw r) ∙ gain-none (rising a b c d))
+    ∙ sum4-zero n _ (λ a b c d. indicator-when (rising a b c d) _ 0 (λ r. rw r) ∙ indicator-none (rising a b c d))
 
 -- a record that passes adds nothing on the diagonal, where the quartet due rises
 adds-diagonal : (k : ℕ) (q : Quartet) (r : Record) (i : ℕ) → record-refusal k q r ≡ none → adds r i i ≤ unrising q

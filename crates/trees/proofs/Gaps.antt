@@ -1,0 +1,59 @@
+-- The total gap is 0 exactly when the tree has the table, and it fits 64 bits where the cells fit 32.
+use mathlib.Core.Path.{_≡_}
+use mathlib.Core.Logic.{_↔_}
+use mathlib.Core.List.{List}
+use Prim.Native.Nat.{ℕ, _-_, _*_, _^_, _≤_, _<_}
+use native.Mathlib.Nat.{mul-le-mul, mul-le-mul-left, mul-le-mul-right}
+use native.Mathlib.Omega.{arith}
+use native.Mathlib.Decide.{decLt}
+use Rattle.base.specs.Numbers.{distance}
+use Rattle.base.proofs.Sums.{pair-sum-ext, zero-pair-sum, pair-sum-zero, pair-sum-le}
+use Rattle.base.proofs.Sums.{distance-same, distance-zero, distance-most}
+use Rattle.limits.specs.Limits.{most-leaves, IsLeafCount, largest-cell}
+use Rattle.trees.specs.Trees.{Tree, ordered}
+use Rattle.trees.specs.Quartets.{quartets}
+use Rattle.trees.specs.Tables.{cell, HasTable, IsTable}
+use Rattle.trees.specs.Gaps.{gap-size, total-gap}
+use Rattle.trees.proofs.Quartets.{quartets-ij, ordered-quartets, cell-limit}
+use Rattle.trees.proofs.Tables.{halves-equal, HasCells, to-cells, of-cells}
+
+module _ (n s : ℕ) (t : List ℕ) (T : Tree) where
+  pub gap-none : HasTable n s t T → total-gap n s t T ≡ 0
+  unfolding total-gap gap-size
+  gap-none h = zero-pair-sum n _ (λ i j l m.
+      rw (to-cells n s t T h i j (omega arith) m (omega arith)) (distance-same (s * quartets n T i j)))
+
+  -- no gap above the diagonal
+  above : total-gap n s t T ≡ 0 → (i j : ℕ) → i < j → j < n → cell n t i j ≡ s * quartets n T i j
+  unfolding total-gap gap-size
+  above h i j l m = distance-zero _ _ (pair-sum-zero n (gap-size n s t T) h i j l m)
+
+  -- the total gap is 0 exactly when the tree has the table
+  pub gap-zero : IsTable n t → (total-gap n s t T ≡ 0) ↔ HasTable n s t T
+  gap-zero is = (λ h. of-cells n s t T is (all h), gap-none)
+    where
+      all : total-gap n s t T ≡ 0 → HasCells n s (cell n t) T
+      all h i j li lj d = elim (decLt i j) [
+        | yes l ↦ above h i j l lj
+        | no g ↦ rw (halves-equal is i j li lj, quartets-ij n T i j) (above h j i (omega arith) li)
+      ]
+
+  -- standard order changes no gap
+  pub ordered-gap : total-gap n s t (ordered T) ≡ total-gap n s t T
+  unfolding total-gap gap-size
+  ordered-gap = pair-sum-ext n _ _ (λ i j l m. rw (ordered-quartets n T i j))
+
+  -- no total is too large for 64 bits, whatever the limit on the leaves
+  pub gap-fits :
+      IsLeafCount n → s * largest-cell < 2 ^ 32 → ((i j : ℕ) → i < n → j < n → cell n t i j < 2 ^ 32)
+      → total-gap n s t T < 2 ^ 64
+  unfolding total-gap gap-size
+  gap-fits c few cells =
+      let all = pair-sum-le n (gap-size n s t T) (2 ^ 32 - 1) each in
+      let row = mul-le-mul (c .1) (mul-le-mul-right (2 ^ 32 - 1) (c .1)) in
+      omega (arith, all, row)
+    where
+      each : (i j : ℕ) → i < j → j < n → distance (cell n t i j) (s * quartets n T i j) ≤ 2 ^ 32 - 1
+      each i j l m =
+          let count = mul-le-mul-left s (cell-limit n c T i j (omega arith) m) in
+          distance-most _ _ _ (omega (arith, cells i j (omega arith) m)) (omega (arith, count))
