@@ -1,21 +1,32 @@
 -- The total gap is 0 exactly when the tree has the table, and it fits 64 bits where the cells fit 32.
-use mathlib.Core.Path.{_≡_}
+use mathlib.Core.Path.{_≡_, refl}
 use mathlib.Core.Logic.{_↔_}
-use mathlib.Core.List.{List}
+use mathlib.Core.List.{List, [], _∷_}
 use Prim.Native.Nat.{ℕ, _-_, _*_, _^_, _≤_, _<_}
 use native.Mathlib.Nat.{mul-le-mul, mul-le-mul-left, mul-le-mul-right}
 use native.Mathlib.Omega.{arith}
 use native.Mathlib.Decide.{decLt}
-use Rattle.base.specs.Numbers.{distance}
+use Rattle.base.specs.Numbers.{count-below, sum-below, pair-sum, distance}
+use Rattle.base.specs.Lists.{any-in}
 use Rattle.base.proofs.Sums.{pair-sum-ext, zero-pair-sum, pair-sum-zero, pair-sum-le}
 use Rattle.base.proofs.Sums.{distance-same, distance-zero, distance-most}
-use Rattle.limits.specs.Limits.{most-leaves, IsLeafCount, largest-cell}
-use Rattle.trees.specs.Trees.{Tree, ordered}
-use Rattle.trees.specs.Quartets.{quartets}
+use Rattle.limits.specs.Limits.{IsLeafCount, largest-cell}
+use Rattle.pair_counts.specs.Pairs.{pairs-below}
+use Rattle.trees.specs.Trees.{Tree, leaf, node, leaves, ordered}
+use Rattle.trees.specs.Edges.{edges}
+use Rattle.trees.specs.Quartets.{separates, paired, other, quartets}
 use Rattle.trees.specs.Tables.{cell, HasTable, IsTable}
 use Rattle.trees.specs.Gaps.{gap-size, total-gap}
 use Rattle.trees.proofs.Quartets.{quartets-ij, ordered-quartets, cell-limit}
 use Rattle.trees.proofs.Tables.{halves-equal, HasCells, to-cells, of-cells}
+
+-- three leaves have no quartet: each cell above the diagonal is a gap
+gap-example :
+    total-gap 3 1 (0 ∷ 1 ∷ 2 ∷ 1 ∷ 0 ∷ 4 ∷ 2 ∷ 4 ∷ 0 ∷ []) (node (leaf 1) (leaf 2)) ≡ 7
+unfolding
+    total-gap gap-size pair-sum sum-below distance cell quartets pairs-below count-below other paired edges any-in separates
+    leaves
+gap-example = refl
 
 module _ (n s : ℕ) (t : List ℕ) (T : Tree) where
   pub gap-none : HasTable n s t T → total-gap n s t T ≡ 0
