@@ -1,5 +1,6 @@
--- The tree left by n − 1 merges has just the edges that 01 names: those of the leaves, and of the subtrees that merges
--- other than the last made. The idea: a state's subtrees are the leaves and what was made; rerooting keeps edges.
+-- The tree left by n − 1 merges of different subtrees has just the edges that 01 names: those of the leaves, and of the
+-- subtrees that merges other than the last made. The idea: a state's subtrees are the leaves and what was made; rerooting
+-- keeps edges.
 use mathlib.Core.Path.{_≡_, refl, ap, sym, _∙_, subst}
 use mathlib.Core.Logic.{_⊎_, inl, inr}
 use mathlib.Core.Bool.{Bool, true, _||_}
@@ -13,24 +14,24 @@ use Rattle.base.specs.Lists.{tab, any-in, all-in}
 use Rattle.base.proofs.Bools.{bool?, or-left, or-right, or-none, or-cases, and-is}
 use Rattle.base.proofs.Lists.{but-last, split-last}
 use Rattle.limits.specs.Limits.{IsLeafCount}
-use Rattle.trees.specs.Trees.{Tree, leaf, LeafSet, leaves, least, join}
+use Rattle.trees.specs.Trees.{Tree, leaf, node, LeafSet, leaves, least, join, ordered}
+use Rattle.trees.specs.Rerooting.{IsHeld, rerooted}
 use Rattle.trees.specs.Listings.{tree-of}
 use Rattle.trees.specs.Edges.{one-edge, is-edge}
-use Rattle.trees.specs.Tables.{cell, IsTable}
-use Rattle.trees.proofs.Trees.{leaves-join, Distinct, Drawn, drawn-on, tree-size}
+use Rattle.trees.specs.Tables.{cell}
+use Rattle.trees.proofs.Trees.{leaves-join, join-either, Drawn, drawn-on, tree-size}
 use Rattle.trees.proofs.Subtrees.{In, in-whole, in-join, join-left, join-right, leaf-in, every-edge, edge-count}
-use Rattle.trees.proofs.Subtrees.{same-sym, one-edge-is, subtree-edge}
+use Rattle.trees.proofs.Subtrees.{same-sym, same-trans, one-edge-is, subtree-edge, ordered-to, ordered-of}
+use Rattle.trees.proofs.Rerooting.{held-on, part-join, join-part, held-same, rerooted-side, rerooted-part}
 use Rattle.trees.proofs.Listings.{standard-read}
 use Rattle.merging.specs.Merging.{State, start, merge, step}
-use Rattle.merging.specs.MergeLists.{Pair, run, allowed, after, each-eligible, Finished, subtrees, final-listing}
+use Rattle.merging.specs.MergeLists.{Pair, run, after, each-eligible, final-listing}
 use Rattle.merging.specs.FinalEdges.{made, sides, FinalEdges}
-use Rattle.merging.proofs.States.{WellFormed, Single, wf-start, step-in, step-out, apart}
-use Rattle.merging.proofs.Rerooting.{rerooted-ordered, Facing, facing-all, rerooted-ordered-to}
-use Rattle.merging.proofs.Rerooting.{rerooted-ordered-of}
-use Rattle.merging.proofs.Runs.{Eligible, allowed-runs}
-use Rattle.merging.proofs.Soundness.{Sums, sums-start, sums-runs, drawn}
-use Rattle.merging.proofs.MergeLists.{one-single, head, allowed-more}
-use Rattle.merging.proofs.Ends.{halves, runs, wf, left-is, full-list}
+use Rattle.merging.specs.inner.Runs.{Differ}
+use Rattle.merging.proofs.States.{WellFormed, Single, wf-start, step-in, step-out, wf-step}
+use Rattle.merging.proofs.MergeLists.{one-single, Merges, wf-run, wf-after, full-one, single-held, single-drawn}
+use Rattle.merging.proofs.Runs.{allowed-merges}
+use Rattle.merging.proofs.Ends.{left-is}
 
 -- four merges of five leaves give eight sides: the leaves, and the three subtrees made before the last merge
 sides-example : length (sides 5 ((3, 4) ∷ (0, 1) ∷ (2, 3) ∷ (0, 2) ∷ [])) ≡ 8
@@ -91,7 +92,7 @@ module _ (f : LeafSet → Bool) where
   every-member (Y ∷ l) h = and-is _ _ (h Y (inl refl)) (every-member l (λ X g. h X (inr g)))
 
 -- The subtrees of a state, after one step and after a list.
-module _ (n s : ℕ) (c : ℕ → ℕ → ℕ) where
+module _ (n : ℕ) where
   step-keeps :
       {S : State} → WellFormed n S → (i j k : ℕ) (X : Tree) → In X (S .tree k) → In X ((step S i j) .tree k)
   step-keeps {S} w i j k X h = elim (bool? (leaves (S .tree i) k)) [
@@ -120,53 +121,49 @@ module _ (n s : ℕ) (c : ℕ → ℕ → ℕ) where
   step-makes {S} w i j = rw (step-in S i j i (or-left _ _ (w .own i))) (in-whole (join (S .tree i) (S .tree j)))
 
   run-keeps :
-      (S : State) → WellFormed n S → (L : List Pair) → allowed n s c S L ≡ true → (k : ℕ) (X : Tree)
+      (S : State) → WellFormed n S → (L : List Pair) → Merges n S L → (k : ℕ) (X : Tree)
       → In X (S .tree k) → In X ((run S L) .tree k)
   unfolding run
-  run-keeps S w [] a k X h = h
-  run-keeps S w (p ∷ L) a k X h =
-      let b = head n s c w p L a in
-      run-keeps (step S (p .0) (p .1)) (b .wf) L (b .rest) k X (step-keeps w (p .0) (p .1) k X h)
+  run-keeps S w [] m k X h = h
+  run-keeps S w (p ∷ L) m k X h =
+      run-keeps (step S (p .0) (p .1)) (wf-step w (p .0) (p .1) (m .0)) L (m .1) k X (step-keeps w (p .0) (p .1) k X h)
 
   made-in :
-      (S : State) → WellFormed n S → (L : List Pair) → allowed n s c S L ≡ true → (X : Tree) → Among X (made S L)
+      (S : State) → WellFormed n S → (L : List Pair) → Merges n S L → (X : Tree) → Among X (made S L)
       → (k : ℕ) × (k < n) × In X ((run S L) .tree k)
   unfolding run made
-  made-in S w [] a X h = absurd h
-  made-in S w (p ∷ L) a X h =
-      let b = head n s c w p L a in
+  made-in S w [] m X h = absurd h
+  made-in S w (p ∷ L) m X h =
+      let w′ = wf-step w (p .0) (p .1) (m .0) in
       elim h [
         | inl e ↦
             let here : In X ((step S (p .0) (p .1)) .tree (p .0)) = rw e (step-makes w (p .0) (p .1)) in
-            (p .0, b .first .left, run-keeps (step S (p .0) (p .1)) (b .wf) L (b .rest) (p .0) X here)
-        | inr g ↦ made-in (step S (p .0) (p .1)) (b .wf) L (b .rest) X g
+            (p .0, m .0 .left, run-keeps (step S (p .0) (p .1)) w′ L (m .1) (p .0) X here)
+        | inr g ↦ made-in (step S (p .0) (p .1)) w′ L (m .1) X g
       ]
 
   in-made :
-      (S : State) → WellFormed n S → (L : List Pair) → allowed n s c S L ≡ true → (k : ℕ) (X : Tree) → k < n
+      (S : State) (L : List Pair) → Merges n S L → (k : ℕ) (X : Tree) → k < n
       → In X ((run S L) .tree k) → ((l : ℕ) × (l < n) × In X (S .tree l)) ⊎ Among X (made S L)
   unfolding run made
-  in-made S w [] a k X l h = inl (k, l, h)
-  in-made S w (p ∷ L) a k X l h =
-      let b = head n s c w p L a in
-      elim (in-made (step S (p .0) (p .1)) (b .wf) L (b .rest) k X l h) [
-        | inl r ↦ elim (step-cases S (p .0) (p .1) (r .0) (b .first .left) (b .first .right) (r .1) X (r .2)) [
-          | inl e ↦ inr (inl e)
-          | inr q ↦ inl q
-        ]
-        | inr m ↦ inr (inr m)
-      ]
+  in-made S [] m k X l h = inl (k, l, h)
+  in-made S (p ∷ L) m k X l h = elim (in-made (step S (p .0) (p .1)) L (m .1) k X l h) [
+    | inl r ↦ elim (step-cases S (p .0) (p .1) (r .0) (m .0 .left) (m .0 .right) (r .1) X (r .2)) [
+      | inl e ↦ inr (inl e)
+      | inr q ↦ inl q
+    ]
+    | inr g ↦ inr (inr g)
+  ]
 
   -- the last merge of a list
-  allowed-last :
-      (S : State) → WellFormed n S → (M : List Pair) (p : Pair) → allowed n s c S (M ++ (p ∷ [])) ≡ true
-      → (allowed n s c S M ≡ true) × WellFormed n (run S M) × Eligible n s c (run S M) (p .0) (p .1)
+  merges-last :
+      (S : State) (M : List Pair) (p : Pair) → Merges n S (M ++ (p ∷ []))
+      → Merges n S M × Differ n (run S M) (p .0) (p .1)
   unfolding run
-  allowed-last S w [] p h = let b = head n s c w p [] h in (unfold allowed in refl, w, b .first)
-  allowed-last S w (q ∷ M) p h =
-      let b = head n s c w q (M ++ (p ∷ [])) h in
-      let r = allowed-last (step S (q .0) (q .1)) (b .wf) M p (b .rest) in
-      (allowed-more n s c S q M (b .first) (r .0), r .1, r .2)
+  merges-last S [] p m = (tt, m .0)
+  merges-last S (q ∷ M) p m =
+      let r = merges-last (step S (q .0) (q .1)) M p (m .1) in
+      ((m .0, r .0), r .1)
 
 run-last : (S : State) (M : List Pair) (p : Pair) → run S (M ++ (p ∷ [])) ≡ step (run S M) (p .0) (p .1)
 unfolding run
@@ -179,12 +176,8 @@ made-last S [] p = (join (S .tree (p .0)) (S .tree (p .1)), refl)
 made-last S (q ∷ M) p = let r = made-last (step S (q .0) (q .1)) M p in (r .0, rw (r .1))
 
 -- A list L of n − 1 merges: M, and then p, which joins A and B.
-module _ (n s : ℕ) (big : 3 ≤ n) (sp : 0 < s) (t : List ℕ) (h : IsTable n t) (M : List Pair) (p : Pair)
-    (size-M : length M ≡ n - 2) (many : length (M ++ (p ∷ [])) ≡ n - 1)
-    (ok : each-eligible n s t (M ++ (p ∷ [])) ≡ true) where
-  abbrev c : ℕ → ℕ → ℕ
-  c = cell n t
-
+module _ (n : ℕ) (big : 3 ≤ n) (M : List Pair) (p : Pair) (size-M : length M ≡ n - 2)
+    (many : length (M ++ (p ∷ [])) ≡ n - 1) (ok : Merges n start (M ++ (p ∷ []))) where
   abbrev L : List Pair
   L = M ++ (p ∷ [])
 
@@ -197,49 +190,41 @@ module _ (n s : ℕ) (big : 3 ≤ n) (sp : 0 < s) (t : List ℕ) (h : IsTable n 
   abbrev B : Tree
   B = S .tree (p .1)
 
-  done : Finished n s t L × (subtrees n (after L) ≡ 1)
-  done = full-list n s big sp t h L many ok
+  last : Merges n start M × Differ n S (p .0) (p .1)
+  last = merges-last n start M p ok
+
+  wf-S : WellFormed n S
+  wf-S = wf-run start (wf-start n) M (last .0)
 
   wf-L : WellFormed n (after L)
-  wf-L = wf n s big sp t h L (done .0)
+  wf-L = wf-after L ok
 
   one : Single n (after L)
-  one = one-single wf-L (omega arith) (omega (arith, done .1))
-
-  d : Drawn n (rerooted-ordered ((after L) .tree 0))
-  d = drawn n s c (halves n s big sp t h) (runs n s big sp t h L (done .0)) one (omega arith)
-
-  tree-is : tree-of n (final-listing n L) ≡ rerooted-ordered ((after L) .tree 0)
-  tree-is = rw (left-is n s big sp t h L (done .0)) (standard-read n (rerooted-ordered ((after L) .tree 0)) big d)
-
-  last : (allowed n s c start M ≡ true) × WellFormed n S × Eligible n s c S (p .0) (p .1)
-  unfolding each-eligible
-  last = allowed-last n s c start (wf-start n) M p ok
+  one = one-single wf-L (omega arith) (omega (arith, full-one (omega arith) L many ok))
 
   whole-tree : (after L) .tree 0 ≡ join A B
   whole-tree =
-      let in-p = wf-L .closed 0 (p .0) (one (p .0) (last .2 .left)) in
+      let in-p = wf-L .closed 0 (p .0) (one (p .0) (last .1 .left)) in
       let after-is : after L ≡ step S (p .0) (p .1) = unfold after in run-last start M p in
       sym in-p
       ∙ ap (λ (R : State). R .tree (p .0)) after-is
-      ∙ step-in S (p .0) (p .1) (p .0) (or-left _ _ (last .1 .own (p .0)))
+      ∙ step-in S (p .0) (p .1) (p .0) (or-left _ _ (wf-S .own (p .0)))
+
+  held : IsHeld n (join A B)
+  held = rw whole-tree at (single-held wf-L one (omega arith))
+
+  -- the tree left
+  abbrev T : Tree
+  T = ordered (rerooted (join A B))
+
+  d : Drawn n T
+  d = rw whole-tree at (single-drawn wf-L one (omega arith))
+
+  tree-is : tree-of n (final-listing n L) ≡ T
+  tree-is = rw (left-is n L, whole-tree) (standard-read n T big d)
 
   two : (k : ℕ) → k < n → (leaves A k || leaves B k) ≡ true
   two k l = rw (whole-tree, leaves-join) at (one k l)
-
-  facing : Facing n A B
-  facing = facing-all n A B (apart (last .1) (p .0) (p .1) (last .2 .apart)) two
-
-  sums-S : Sums n s c S
-  sums-S =
-      sums-runs n s c (halves n s big sp t h) (wf-start n) (sums-start n s c (halves n s big sp t h))
-      (allowed-runs s c start (wf-start n) M (last .0))
-
-  distinct-A : Distinct A
-  distinct-A = sums-S .distinct (p .0)
-
-  distinct-B : Distinct B
-  distinct-B = sums-S .distinct (p .1)
 
   -- the leaves, and what the merges of M made, are the subtrees of A and B
   abbrev parts : List Tree
@@ -251,8 +236,8 @@ module _ (n s : ℕ) (big : 3 ≤ n) (sp : 0 < s) (t : List ℕ) (h : IsTable n 
 
   in-two : (k : ℕ) → k < n → (X : Tree) → In X (S .tree k) → In X A ⊎ In X B
   in-two k l X g = elim (or-cases (leaves A k) (leaves B k) (two k l)) [
-    | inl a ↦ inl (rw (last .1 .closed (p .0) k a) at g)
-    | inr b ↦ inr (rw (last .1 .closed (p .1) k b) at g)
+    | inl a ↦ inl (rw (wf-S .closed (p .0) k a) at g)
+    | inr b ↦ inr (rw (wf-S .closed (p .1) k b) at g)
   ]
 
   side-in : (X : Tree) → Among X parts → In X A ⊎ In X B
@@ -264,12 +249,12 @@ module _ (n s : ℕ) (big : 3 ≤ n) (sp : 0 < s) (t : List ℕ) (h : IsTable n 
           | inr x ↦ inr (leaf-in (r .0) B x)
         ])
     | inr b ↦
-        let r = made-in n s c start (wf-start n) M (last .0) X b in
+        let r = made-in n start (wf-start n) M (last .0) X b in
         in-two (r .0) (r .1) X (r .2)
   ]
 
   from-start : (k : ℕ) → k < n → (X : Tree) → In X (S .tree k) → Among X parts
-  from-start k l X g = elim (in-made n s c start (wf-start n) M (last .0) k X l g) [
+  from-start k l X g = elim (in-made n start M (last .0) k X l g) [
     | inl r ↦ among-left X (tab n leaf) (made start M) (rw (single (r .0) (r .2)) (among-leaf n (r .0) (r .1)))
     | inr m ↦ among-right X (tab n leaf) (made start M) m
   ]
@@ -279,44 +264,54 @@ module _ (n s : ℕ) (big : 3 ≤ n) (sp : 0 < s) (t : List ℕ) (h : IsTable n 
 
   in-side : (X : Tree) → In X A ⊎ In X B → Among X parts
   in-side X g = elim g [
-    | inl a ↦ from-start (p .0) (last .2 .left) X a
-    | inr b ↦ from-start (p .1) (last .2 .right) X b
+    | inl a ↦ from-start (p .0) (last .1 .left) X a
+    | inr b ↦ from-start (p .1) (last .1 .right) X b
   ]
 
-  -- each part is an edge of the rerooted tree, and each edge of it is a part
-  part-edge : (X : Tree) → Among X parts → is-edge n (rerooted-ordered (join A B)) (leaves X) ≡ true
+  -- each part is an edge of the tree left, and each edge of it is a part
+  part-edge : (X : Tree) → Among X parts → is-edge n T (leaves X) ≡ true
   part-edge X g =
-      let r = rerooted-ordered-to n A B distinct-A distinct-B facing X (side-in X g) in
-      subtree-edge n (rerooted-ordered (join A B)) X (r .0) (r .1) (r .2)
+      let r = rerooted-side n (join A B) (omega arith) held X (part-join X A B (side-in X g)) in
+      let q = ordered-to (rerooted (join A B)) (r .0) (r .1) in
+      subtree-edge n T X (q .0) (q .1) (same-trans n X (r .0) (q .0) (r .2) (inl (λ k l. q .2 k)))
 
-  edge-part : (Y : Tree) → In Y (rerooted-ordered (join A B)) → any-in (one-edge n (leaves Y)) (map leaves parts) ≡ true
+  edge-part : (Y : Tree) → In Y T → any-in (one-edge n (leaves Y)) (map leaves parts) ≡ true
   edge-part Y g =
-      let r = rerooted-ordered-of n A B distinct-A distinct-B facing Y g in
-      any-member (one-edge n (leaves Y)) parts (r .0) (in-side (r .0) (r .1)) (one-edge-is n Y (r .0) (r .2))
+      let q = ordered-of (rerooted (join A B)) Y g in
+      let r = rerooted-part n (join A B) (omega arith) held (q .0) (q .1) in
+      let same = same-trans n Y (q .0) (r .0) (inl (λ k l. sym (q .2 k))) (r .2) in
+      any-member (one-edge n (leaves Y)) parts (r .0) (in-side (r .0) (join-part (r .0) A B (r .1)))
+      (one-edge-is n Y (r .0) same)
 
+  -- the two subtrees joined last
   last-sides : one-edge n (leaves A) (leaves B) ≡ true
-  last-sides = one-edge-is n A B (same-sym n B A (inr facing))
+  last-sides = one-edge-is n A B (elim (join-either A B) [
+    | inl e ↦ held-same n A B (held-on n (node A B) (rw e at held))
+    | inr e ↦ same-sym n B A (held-same n B A (held-on n (node B A) (rw e at held)))
+  ])
 
   the-edges : FinalEdges n L
   the-edges = record {
-    each-is-a-side =
-        rw (tree-is, whole-tree, sides-are) (every-member (is-edge n (rerooted-ordered (join A B))) parts part-edge);
+    each-is-a-side = rw (tree-is, sides-are) (every-member (is-edge n T) parts part-edge);
     no-other-edge =
-        rw (tree-is, whole-tree, sides-are)
-        (every-edge (λ e. any-in (one-edge n e) (map leaves parts)) (rerooted-ordered (join A B)) edge-part);
-    so-many =
-        let H = rerooted-ordered ((after L) .tree 0) in
-        rw tree-is (omega (arith, edge-count H, tree-size n H (drawn-on n H d) (omega arith)));
+        rw (tree-is, sides-are) (every-edge (λ e. any-in (one-edge n e) (map leaves parts)) T edge-part);
+    so-many = rw tree-is (omega (arith, edge-count T, tree-size n T (drawn-on n T d) (omega arith)));
     joined-last = rw (but-last M p, getD-at M p [] (0, 0) (n - 2) size-M) (unfold after in last-sides);
   }
 
--- the tree left by n − 1 merges has the edges that 01 names
-pub final-edges :
-    (n : ℕ) → IsLeafCount n → (s : ℕ) → 0 < s → (t : List ℕ) → IsTable n t → (L : List Pair) → length L ≡ n - 1
-    → each-eligible n s t L ≡ true → FinalEdges n L
-final-edges n count s sp t table L many ok =
-    let cut = split-last (n - 2) L (omega (arith, count .0)) in
+-- the tree left by n − 1 merges of different subtrees has the edges that 01 names
+merged-edges :
+    (n : ℕ) → 3 ≤ n → (L : List Pair) → length L ≡ n - 1 → Merges n start L → FinalEdges n L
+merged-edges n big L many ok =
+    let cut = split-last (n - 2) L (omega arith) in
     let many′ = subst (λ (K : List Pair). length K ≡ n - 1) (cut .3) many in
-    let ok′ = subst (λ (K : List Pair). each-eligible n s t K ≡ true) (cut .3) ok in
-    subst (FinalEdges n) (sym (cut .3))
-    (the-edges n s (count .0) sp t table (cut .0) (cut .1) (cut .2) many′ ok′)
+    let ok′ = subst (Merges n start) (cut .3) ok in
+    subst (FinalEdges n) (sym (cut .3)) (the-edges n big (cut .0) (cut .1) (cut .2) many′ ok′)
+
+-- so has that left by n − 1 eligible ones
+pub final-edges :
+    (n : ℕ) → IsLeafCount n → (s : ℕ) (t : List ℕ) (L : List Pair) → length L ≡ n - 1
+    → each-eligible n s t L ≡ true → FinalEdges n L
+unfolding each-eligible
+final-edges n count s t L many ok =
+    merged-edges n (count .0) L many (allowed-merges n s (cell n t) start (wf-start n) L ok)

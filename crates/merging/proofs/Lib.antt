@@ -1,12 +1,11 @@
 pub mod States
-pub mod Rerooting
+pub mod MergeLists
 pub mod Runs
 pub mod Values
 pub mod Soundness
 pub mod Completeness
 pub mod ThreeSubtrees
 pub mod Exchange
-pub mod MergeLists
 pub mod Rebuilds
 pub mod Ends
 pub mod Rooted

@@ -10,14 +10,15 @@ use native.Mathlib.Omega.{arith}
 use Rattle.base.proofs.Bools.{bool?, never, or-left, or-right, or-none, or-cases}
 use Rattle.pair_counts.specs.Pairs.{P}
 use Rattle.pair_counts.proofs.Pairs.{P-zero, P-le, P-tight}
-use Rattle.trees.specs.Trees.{Tree, leaves, size, join}
+use Rattle.trees.specs.Trees.{Tree, leaves, size, join, ordered}
+use Rattle.trees.specs.Rerooting.{rerooted}
 use Rattle.trees.proofs.Trees.{size-pos, leaves-join, size-join}
+use Rattle.trees.proofs.Rerooting.{rerooted-three}
 use Rattle.merging.specs.Merging.{State, step}
-use Rattle.merging.specs.MergeLists.{final-listing}
+use Rattle.merging.specs.inner.Runs.{Eligible}
 use Rattle.merging.proofs.States.{WellFormed, Single, step-in, step-out, step-m-left, step-m-right, step-m-out}
 use Rattle.merging.proofs.States.{apart, clear, other-apart, two-fit, full, step-move, growth, met}
-use Rattle.merging.proofs.Rerooting.{rerooted-ordered, rerooted-ordered-three}
-use Rattle.merging.proofs.Runs.{Eligible, Reaches, stop, go, EqualHalves, wf-go, eligible-sym, step-sym}
+use Rattle.merging.proofs.Runs.{differ, Reaches, stop, go, EqualHalves, wf-go, eligible-sym, step-sym}
 use Rattle.merging.proofs.Runs.{eligible-move, single-stops}
 
 -- Arithmetic of the bound: what a step adds to both sides.
@@ -77,8 +78,8 @@ module _ (n s : ℕ) (c : ℕ → ℕ → ℕ) (halves : EqualHalves n c) where
         (P (n - (size ((step S p q) .tree i) + size ((step S p q) .tree j))) + ((step S p q) .m i + (step S p q) .m j))
         → c i j ≤ s * (P (n - (size (S .tree i) + size (S .tree j))) + (S .m i + S .m j))
     bound-apart {S} w p q i j e li lj f ih =
-        let gi = growth w p q (e .left) (e .right) (e .apart) i in
-        let gj = growth w p q (e .left) (e .right) (e .apart) j in
+        let gi = growth w p q (differ e) i in
+        let gj = growth w p q (differ e) j in
         let fit = rw (gi .1, gj .1) at (two-fit (wf-go w p q e) i j li lj f) in
         grow-le n s (c i j) _ _ (gi .0) (gj .0) _ _ fit (rw (gi .1, gj .1, gi .2, gj .2) at ih)
 
@@ -92,7 +93,7 @@ module _ (n s : ℕ) (c : ℕ → ℕ → ℕ) (halves : EqualHalves n c) where
         → c i j ≤ s * (P (n - (size (S .tree i) + size (S .tree j))) + (S .m i + S .m j))
     bound {S} w (stop one e) i j li lj h = absurd (never (one j lj) (rw (w .closed 0 i (one i li)) at h))
     bound {S} w (go p q e g) i j li lj h = elim (bool? (leaves ((step S p q) .tree i) j)) [
-      | inl t ↦ elim (met w p q (e .left) (e .right) (e .apart) i j h t) [
+      | inl t ↦ elim (met w p q (differ e) i j h t) [
         | inl r ↦ le-of-eq (bound-met w p q i j e (r .0) (r .1))
         | inr r ↦ le-of-eq (turn-fits S j i lj li (bound-met w p q j i e (r .1) (r .0)))
       ]
@@ -122,7 +123,7 @@ module _ (n s : ℕ) (c : ℕ → ℕ → ℕ) (halves : EqualHalves n c) where
           ]
         ]
 
-    pub last-one : {S : State} → WellFormed n S → Single n S → Reaches n s c H S → rerooted-ordered (S .tree 0) ≡ H
+    pub last-one : {S : State} → WellFormed n S → Single n S → Reaches n s c H S → ordered (rerooted (S .tree 0)) ≡ H
     last-one w one (stop one′ e) = e
     last-one w one (go p q e g) = absurd (single-stops w one p q e)
 
@@ -206,7 +207,7 @@ module _ (n s : ℕ) (c : ℕ → ℕ → ℕ) (halves : EqualHalves n c) where
       last-step : Eligible n s c (step S i j) i l × Reaches n s c H (step (step S i j) i l)
       last-step = last-two (wf-go w i j e) i l (e .left) ll far all-three g
 
-      three-rerooted : rerooted-ordered (join (join A B) D) ≡ H
+      three-rerooted : ordered (rerooted (join (join A B) D)) ≡ H
       three-rerooted =
           let w′ = wf-go (wf-go w i j e) i l (last-step .0) in
           let one = last-single (step S i j) i l (e .left) all-three in
@@ -274,11 +275,11 @@ module _ (n s : ℕ) (c : ℕ → ℕ → ℕ) (halves : EqualHalves n c) where
           full (wf-go w i l pair-fits) i j (e .left) (e .right) (other-step .apart)
           (rw (r-ad, r-b, size-join) (omega (arith, tight)))
 
-      same-rerooted : rerooted-ordered ((step R i j) .tree 0) ≡ H
+      same-rerooted : ordered (rerooted ((step R i j) .tree 0)) ≡ H
       same-rerooted =
           let z = rw (ab, d, leaves-join) at (all-three 0 (omega (arith, e .left))) in
-          let turned-round = rerooted-ordered-three A B D (apart w i j (e .apart)) (apart w i l il)
-          (apart w j l jl) z in
+          let turned-round = rerooted-three A B D (w .distinct i) (w .distinct j) (w .distinct l)
+          (apart w i j (e .apart)) (apart w i l il) (apart w j l jl) z in
           rw (last-tree R i j (e .left) all-other, r-ad, r-b) (sym turned-round ∙ three-rerooted)
 
       pub three-left : Reaches n s c H R

@@ -14,7 +14,7 @@ use Rattle.base.proofs.Bools.{never, or-neither}
 use Rattle.base.proofs.Searches.{any-before}
 use Rattle.checks.specs.Questions.{question-refusal}
 use Rattle.checks.proofs.QuestionRefusal.{position-good}
-use Rattle.trees.proofs.Pairings.{Four}
+use Rattle.trees.specs.Quartets.{Four}
 
 -- the leaves of a question are four different ones
 abbrev pub FourAsked : ℕ → List ℕ → Type 0

@@ -24,7 +24,8 @@ use Rattle.trees.specs.Trees.{Tree, IsTree}
 use Rattle.trees.specs.Quartets.{separates, paired, pairing, other, quartets}
 use Rattle.trees.specs.Tables.{table-of}
 use Rattle.trees.proofs.Quartets.{quartets-diagonal, quartets-ij}
-use Rattle.trees.proofs.Pairings.{Four, exactly-one, one-pairing}
+use Rattle.trees.specs.Quartets.{Four}
+use Rattle.trees.proofs.Pairings.{exactly-one, one-pairing}
 use Rattle.refusals.specs.Refusals.{accepted}
 use Rattle.refusals.proofs.Answers.{judged-none, answered-accepted}
 use Rattle.polls.specs.declared.Record.{Record}

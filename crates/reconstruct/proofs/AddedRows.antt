@@ -11,7 +11,8 @@ use lib.ListN.{length}
 use Rattle.base.proofs.Bools.{or-left, or-right, eqb-same}
 use Rattle.trees.specs.Trees.{leaf, node}
 use Rattle.trees.specs.Listings.{with-rows, subtree-at}
-use Rattle.trees.proofs.Forests.{unused, use-row, uses, lawful, lawful-row}
+use Rattle.trees.specs.inner.Forests.{unused, use-row, uses, lawful}
+use Rattle.trees.proofs.Forests.{lawful-row}
 use Rattle.trees.proofs.SubtreesByRow.{rows-old}
 use Rattle.trees.proofs.Blocks.{with-rows-append, uses-append, lawful-append}
 

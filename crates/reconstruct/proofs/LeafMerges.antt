@@ -20,8 +20,10 @@ use Rattle.trees.proofs.Tables.{halves-equal}
 use Rattle.trees.proofs.Forests.{forest-start, lawful-forest}
 use Rattle.merging.specs.Merging.{State, step}
 use Rattle.merging.proofs.States.{WellFormed, wf-start, step-in, step-out}
-use Rattle.merging.proofs.Runs.{Eligible, wf-go, wf-runs, runs-more, eligible-sym, eligible-move, eligible-back}
-use Rattle.merging.proofs.MergeLists.{subtrees-pos, subtrees-step}
+use Rattle.merging.specs.inner.Runs.{Eligible}
+use Rattle.merging.proofs.Runs.{wf-go, wf-runs, runs-more, eligible-sym, eligible-move, eligible-back}
+use Rattle.merging.proofs.MergeLists.{subtrees-pos}
+use Rattle.merging.proofs.Runs.{subtrees-step}
 use Rattle.reconstruct.specs.Fits.{Given, SizesFit, Joins}
 use Rattle.reconstruct.specs.Merged.{MergeReady, Merged}
 use Rattle.reconstruct.specs.StateArrays.{HoldsState, UnusedNumber, Listed, Current, MergingLeaf, LeavesMerged}

@@ -22,7 +22,7 @@ use Rattle.trees.proofs.Trees.{least-in, least-join, size-join}
 use Rattle.merging.specs.Merging.{State, start, step}
 use Rattle.merging.proofs.States.{WellFormed, step-in, step-out, step-m-left, step-m-right, step-m-out, apart}
 use Rattle.merging.proofs.States.{two-fit}
-use Rattle.merging.proofs.Runs.{Eligible, Runs}
+use Rattle.merging.specs.inner.Runs.{Eligible, Runs}
 use Rattle.merging.proofs.Values.{m-pairs}
 use Rattle.reconstruct.specs.Fits.{SubtreesFit, SmallSums, Given, SizesFit, TwoLabels}
 use Rattle.reconstruct.specs.Merged.{relabelled, label-at, m-at, MergeReady}

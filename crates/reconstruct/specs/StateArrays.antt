@@ -8,10 +8,10 @@ use Rattle.limits.specs.Limits.{most-leaves}
 use Rattle.trees.specs.Trees.{Tree, leaf, leaves, size, least}
 use Rattle.trees.specs.Listings.{subtree-at}
 use Rattle.trees.specs.Tables.{cell}
-use Rattle.trees.proofs.Forests.{unused, uses, lawful}
+use Rattle.trees.specs.inner.Forests.{unused, uses, lawful}
 use Rattle.merging.specs.Merging.{State, start}
 use Rattle.merging.specs.MergeLists.{subtrees}
-use Rattle.merging.proofs.Runs.{Eligible, Runs}
+use Rattle.merging.specs.inner.Runs.{Eligible, Runs}
 
 -- the arrays hold the state S: a leaf's label is the least leaf of its subtree; m and sizes are those of S
 pub record HoldsState (n : ℕ) (label m sizes : List ℕ) (S : State) : Type 0 where

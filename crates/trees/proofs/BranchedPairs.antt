@@ -4,18 +4,19 @@ use mathlib.Core.Path.{_≡_, refl, _∙_}
 use mathlib.Core.Logic.{inl, inr}
 use mathlib.Core.Bool.{Bool, true, false, not, _&&_, _||_, and-false, or-comm}
 use mathlib.Core.Option.{none}
-use Prim.Native.Nat.{ℕ, _+_, _<_}
+use Prim.Native.Nat.{ℕ, _+_, _-_, _≤_, _<_}
+use native.Mathlib.Nat.{add-comm}
 use native.Mathlib.Omega.{arith}
 use lib.Dec.{ltb}
 use Rattle.base.specs.Numbers.{indicator}
 use Rattle.base.specs.Lists.{any-in}
-use Rattle.base.proofs.Bools.{bool?, never, is-false, bool-iff, or-cases, or-neither, and-both, and-is}
+use Rattle.base.proofs.Bools.{bool?, never, is-false, bool-iff, or-none, or-cases, or-neither, and-both, and-is}
 use Rattle.pair_counts.specs.Pairs.{P, pairs-below}
-use Rattle.pair_counts.proofs.Pairs.{pairs-ext, pairs-or, pairs-false, pairs-both}
+use Rattle.pair_counts.proofs.Pairs.{P-le, pairs-ext, pairs-or, pairs-false, pairs-both}
 use Rattle.trees.specs.Trees.{Tree, leaf, node, leaves, size, least, join}
 use Rattle.trees.specs.Edges.{edges}
 use Rattle.trees.proofs.Trees.{leaves-node, Apart, apart-sym, Distinct, Within, within-left, within-right}
-use Rattle.trees.proofs.Trees.{size-count}
+use Rattle.trees.proofs.Trees.{size-node, size-pos, size-count}
 use Rattle.trees.proofs.Subtrees.{in-whole, sub-of, any-leaf, any-node, any-edge, the-edge}
 
 -- some subtree of X holds p and q and not i
@@ -108,6 +109,25 @@ inner-sum-join A B i a b = elim (bool? (ltb (least A) (least B))) [
   | inl t ↦ rw t (inner-sum-left A B i a b)
   | inr f ↦ rw f (inner-sum-right B A i b a)
 ]
+
+-- it is at most the number of pairs of the other leaves
+pub inner-sum-most : (Z : Tree) (i : ℕ) → Distinct Z → inner-sum Z i ≤ P (size Z - 1)
+inner-sum-most (leaf x) i d = rw inner-sum-leaf (omega arith)
+inner-sum-most (node X Y) i d = elim (bool? (leaves X i)) [
+  | inl a ↦
+      rw (inner-sum-left X Y i a (d .2 i a)) (most (size X) (size Y) _ (size-pos X) (size-node X Y) (inner-sum-most X i (d .0)))
+  | inr a ↦ elim (bool? (leaves Y i)) [
+    | inl b ↦
+        let sizes = size-node X Y ∙ add-comm (size X) (size Y) in
+        rw (inner-sum-right X Y i a b) (most (size Y) (size X) _ (size-pos Y) sizes (inner-sum-most Y i (d .1)))
+    | inr b ↦ rw (inner-sum-out (node X Y) i (rw leaves-node (or-none _ _ a b))) (omega arith)
+  ]
+]
+  where
+    most : (x y k : ℕ) → 1 ≤ x → size (node X Y) ≡ x + y → k ≤ P (x - 1) → k + P y ≤ P (size (node X Y) - 1)
+    most x y k l e h =
+        let sum : size (node X Y) - 1 ≡ x - 1 + y = omega arith in
+        rw sum (omega (arith, P-le (x - 1) y))
 
 -- one branch more: what the subtree on the way to i sets aside, and all pairs of the branch
 branch-count :

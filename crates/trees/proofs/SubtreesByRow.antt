@@ -21,7 +21,8 @@ use Rattle.trees.specs.Listings.{child, rules-refusal-from, rules-refusa
 use Rattle.trees.specs.Listings.{tree-of}
 use Rattle.trees.proofs.Trees.{leaf-eq, Distinct, Within}
 use Rattle.trees.proofs.Subtrees.{In, in-whole}
-use Rattle.trees.proofs.Forests.{use-row, uses, lawful, LawfulRow, lawful-row, row-lawful, Forest}
+use Rattle.trees.specs.inner.Forests.{use-row, uses, lawful}
+use Rattle.trees.proofs.Forests.{LawfulRow, lawful-row, row-lawful, Forest}
 use Rattle.trees.proofs.Forests.{live-r, live-keep, forest-start, lawful-forest, last-alone}
 use Rattle.trees.proofs.Rules.{child-in, place-keeps, place-kept, to-lawful}
 

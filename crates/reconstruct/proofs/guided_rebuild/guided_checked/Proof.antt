@@ -2,7 +2,7 @@
 -- same result.
 use borrow.Author.Needs.{needs}
 use Rattle.refusals.specs.Refusals.{outcome, written}
-use Rattle.merging.proofs.Runs.{halt}
+use Rattle.merging.specs.inner.Runs.{halt}
 use Rattle.reconstruct.proofs.Lent.{no-bytes}
 use Rattle.reconstruct.proofs.Results.{holds-start}
 use Rattle.reconstruct.proofs.Proposals.{guided-at, guided-whole}
