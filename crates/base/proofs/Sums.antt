@@ -1,4 +1,4 @@
--- Laws of sums over the numbers below n, over two of them, and over the pairs i < j; and of the distance of two numbers.
+-- Laws of sums over the numbers below n, over two of them, and over the pairs i < j; and of how far two are apart.
 use mathlib.Core.Path.{_≡_, refl, sym, _∙_}
 use mathlib.Core.Logic.{_≢_}
 use mathlib.Core.Bool.{Bool, true, false, _&&_}
@@ -43,7 +43,8 @@ sum-le (suc n) m f h = omega (arith, sum-le n m f (λ k l. h k (omega arith)), h
 
 -- the order of two sums does not matter
 pub sum-swap :
-    (n m : ℕ) (f : ℕ → ℕ → ℕ) → sum-below n (λ p. sum-below m (λ q. f p q)) ≡ sum-below m (λ q. sum-below n (λ p. f p q))
+    (n m : ℕ) (f : ℕ → ℕ → ℕ)
+    → sum-below n (λ p. sum-below m (λ q. f p q)) ≡ sum-below m (λ q. sum-below n (λ p. f p q))
 unfolding sum-below
 sum-swap zero m f = sym (zero-sum m (λ q. 0) (λ q l. refl))
 sum-swap (suc n) m f = rw (sum-swap n m f) (sym (sum-add m (λ q. sum-below n (λ p. f p q)) (λ q. f n q)))

@@ -27,7 +27,7 @@ earlier l (suc p) = getD l p 0 ∷ earlier l p
 
 -- the first place from p on that breaks the rules
 abbrev pub rules-refusal-at : ℕ → List ℕ → ℕ → Option Refusal
-rules-refusal-at n l p = rules-refusal-from n (earlier l p) p (drop p l)
+rules-refusal-at n l p = rules-refusal-from n (earlier l p) p p (drop p l)
 
 pub judge-start : (n : ℕ) (l : List ℕ) → rules-refusal-at n l 0 ≡ rules-refusal n l
 unfolding earlier rules-refusal
@@ -56,7 +56,7 @@ module _ {n : ℕ} {l : List ℕ} {p : ℕ} {named : List Bool} (w : PassedTo n 
 
   -- the child c at place p
   module _ (here : p < length l) (c : ℕ) (e : c ≡ getD l p 0) where
-    this : rules-refusal-from n (earlier l p) p (c ∷ drop (suc p) l) ≡ rules-refusal n l
+    this : rules-refusal-from n (earlier l p) p p (c ∷ drop (suc p) l) ≡ rules-refusal n l
     this = rw e (rw (drop-cons l p 0 here) at (w .same))
 
     pub no-child : 0 < n → (0 < c → n + p / 2 ≤ c) → rules-refusal n l ≡ some (Child p)
@@ -75,7 +75,7 @@ module _ {n : ℕ} {l : List ℕ} {p : ℕ} {named : List Bool} (w : PassedTo n 
       judged-more m = record {
         within = omega arith;
         same = rw (add-one p, ← e)
-            (sym (place-keeps n (earlier l p) p c (drop (suc p) l) (child-is n (p / 2) c low high) new) ∙ this);
+            (sym (place-keeps n (earlier l p) p p c (drop (suc p) l) (child-is n (p / 2) c low high) new) ∙ this);
         long = length-set named c true ∙ w .long;
         marks = λ k h. rw (add-one p, ← e) (elim (ℕ-discrete k c) [
           | yes q ↦ rw (q, eqb-same c) (getD-set-same named c true false (omega (arith, w .long)))

@@ -1,20 +1,20 @@
 -- The tree left by n − 1 merges of different subtrees has just the edges that 01 names: those of the leaves, and of the
--- subtrees that merges other than the last made. The idea: a state's subtrees are the leaves and what was made; rerooting
--- keeps edges.
+-- subtrees that merges other than the last made. The idea: a state's subtrees are the leaves and what was made;
+-- rerooting keeps edges.
 use mathlib.Core.Path.{_≡_, refl, ap, sym, _∙_, subst}
 use mathlib.Core.Logic.{_⊎_, inl, inr}
 use mathlib.Core.Bool.{Bool, true, _||_}
 use mathlib.Core.List.{List, [], _∷_, _++_, map}
-use Prim.Native.Nat.{ℕ, zero, suc, _-_, _≤_, _<_}
+use Prim.Native.Nat.{ℕ, _-_, _≤_, _<_}
 use native.Mathlib.Omega.{arith}
-use native.Mathlib.Decide.{decLt}
 use lib.ListN.{length}
 use lib.Seq.{getD-at}
 use Rattle.base.specs.Lists.{tab, any-in, all-in}
 use Rattle.base.proofs.Bools.{bool?, or-left, or-right, or-none, or-cases, and-is}
-use Rattle.base.proofs.Lists.{but-last, split-last}
+use Rattle.base.proofs.Lists.{any-append, any-map, all-map, any-tab-found, every-append, every-tab, but-last}
+use Rattle.base.proofs.Lists.{split-last}
 use Rattle.limits.specs.Limits.{IsLeafCount}
-use Rattle.trees.specs.Trees.{Tree, leaf, node, LeafSet, leaves, least, join, ordered}
+use Rattle.trees.specs.Trees.{Tree, leaf, node, leaves, least, join, ordered}
 use Rattle.trees.specs.Rerooting.{IsHeld, rerooted}
 use Rattle.trees.specs.Listings.{tree-of}
 use Rattle.trees.specs.Edges.{one-edge, is-edge}
@@ -22,7 +22,8 @@ use Rattle.trees.specs.Tables.{cell}
 use Rattle.trees.proofs.Trees.{leaves-join, join-either, Drawn, drawn-on, tree-size}
 use Rattle.trees.proofs.Subtrees.{In, in-whole, in-join, join-left, join-right, leaf-in, every-edge, edge-count}
 use Rattle.trees.proofs.Subtrees.{same-sym, same-trans, one-edge-is, subtree-edge, ordered-to, ordered-of}
-use Rattle.trees.proofs.Rerooting.{held-on, part-join, join-part, held-same, rerooted-side, rerooted-part}
+use Rattle.trees.proofs.Subtrees.{part-join, join-part}
+use Rattle.trees.proofs.Rerooting.{held-on, held-same, rerooted-side, rerooted-part}
 use Rattle.trees.proofs.Listings.{standard-read}
 use Rattle.merging.specs.Merging.{State, start, merge, step}
 use Rattle.merging.specs.MergeLists.{Pair, run, after, each-eligible, final-listing}
@@ -37,59 +38,6 @@ use Rattle.merging.proofs.Ends.{left-is}
 sides-example : length (sides 5 ((3, 4) ∷ (0, 1) ∷ (2, 3) ∷ (0, 2) ∷ [])) ≡ 8
 unfolding sides tab made start step merge leaves join least
 sides-example = refl
-
--- X is a member of the list
-abbrev Among : Tree → List Tree → Type 0
-Among X [] = ⊥
-Among X (Y ∷ l) = (X ≡ Y) ⊎ Among X l
-
-among-left : (X : Tree) (l m : List Tree) → Among X l → Among X (l ++ m)
-among-left X [] m h = absurd h
-among-left X (Y ∷ l) m h = elim h [ inl e ↦ inl e | inr g ↦ inr (among-left X l m g) ]
-
-among-right : (X : Tree) (l m : List Tree) → Among X m → Among X (l ++ m)
-among-right X [] m h = h
-among-right X (Y ∷ l) m h = inr (among-right X l m h)
-
-among-cases : (X : Tree) (l m : List Tree) → Among X (l ++ m) → Among X l ⊎ Among X m
-among-cases X [] m h = inr h
-among-cases X (Y ∷ l) m h = elim h [
-  | inl e ↦ inl (inl e)
-  | inr g ↦ elim (among-cases X l m g) [ inl a ↦ inl (inr a) | inr b ↦ inr b ]
-]
-
-among-leaf : (n k : ℕ) → k < n → Among (leaf k) (tab n leaf)
-unfolding tab
-among-leaf zero k l = absurd (omega arith)
-among-leaf (suc n) k l = elim (decLt k n) [
-  | yes l′ ↦ among-left (leaf k) (tab n leaf) (leaf n ∷ []) (among-leaf n k l′)
-  | no g ↦
-      let e : k ≡ n = omega arith in
-      among-right (leaf k) (tab n leaf) (leaf n ∷ []) (inl (ap leaf e))
-]
-
-leaf-among : (n : ℕ) (X : Tree) → Among X (tab n leaf) → (k : ℕ) × (k < n) × (X ≡ leaf k)
-unfolding tab
-leaf-among zero X h = absurd h
-leaf-among (suc n) X h = elim (among-cases X (tab n leaf) (leaf n ∷ []) h) [
-  | inl a ↦ (let r = leaf-among n X a in (r .0, omega (arith, r .1), r .2))
-  | inr b ↦ elim b [ inl e ↦ (n, omega arith, e) | inr z ↦ absurd z ]
-]
-
--- from members to tests
-module _ (f : LeafSet → Bool) where
-  any-member : (l : List Tree) (X : Tree) → Among X l → f (leaves X) ≡ true → any-in f (map leaves l) ≡ true
-  unfolding any-in
-  any-member [] X h g = absurd h
-  any-member (Y ∷ l) X h g = elim h [
-    | inl e ↦ or-left _ _ (rw e at g)
-    | inr h′ ↦ or-right (f (leaves Y)) _ (any-member l X h′ g)
-  ]
-
-  every-member : (l : List Tree) → ((X : Tree) → Among X l → f (leaves X) ≡ true) → all-in f (map leaves l) ≡ true
-  unfolding all-in
-  every-member [] h = refl
-  every-member (Y ∷ l) h = and-is _ _ (h Y (inl refl)) (every-member l (λ X g. h X (inr g)))
 
 -- The subtrees of a state, after one step and after a list.
 module _ (n : ℕ) where
@@ -128,31 +76,30 @@ module _ (n : ℕ) where
   run-keeps S w (p ∷ L) m k X h =
       run-keeps (step S (p .0) (p .1)) (wf-step w (p .0) (p .1) (m .0)) L (m .1) k X (step-keeps w (p .0) (p .1) k X h)
 
-  made-in :
-      (S : State) → WellFormed n S → (L : List Pair) → Merges n S L → (X : Tree) → Among X (made S L)
-      → (k : ℕ) × (k < n) × In X ((run S L) .tree k)
-  unfolding run made
-  made-in S w [] m X h = absurd h
-  made-in S w (p ∷ L) m X h =
+  -- what a list makes is a subtree of the state that it leaves
+  every-made :
+      (f : Tree → Bool) (S : State) → WellFormed n S → (L : List Pair) → Merges n S L
+      → ((k : ℕ) (X : Tree) → k < n → In X ((run S L) .tree k) → f X ≡ true) → all-in f (made S L) ≡ true
+  unfolding run made all-in
+  every-made f S w [] m h = refl
+  every-made f S w (p ∷ L) m h =
       let w′ = wf-step w (p .0) (p .1) (m .0) in
-      elim h [
-        | inl e ↦
-            let here : In X ((step S (p .0) (p .1)) .tree (p .0)) = rw e (step-makes w (p .0) (p .1)) in
-            (p .0, m .0 .left, run-keeps (step S (p .0) (p .1)) w′ L (m .1) (p .0) X here)
-        | inr g ↦ made-in (step S (p .0) (p .1)) w′ L (m .1) X g
-      ]
+      let first = run-keeps (step S (p .0) (p .1)) w′ L (m .1) (p .0) _ (step-makes w (p .0) (p .1)) in
+      and-is _ _ (h (p .0) _ (m .0 .left) first) (every-made f (step S (p .0) (p .1)) w′ L (m .1) h)
 
-  in-made :
-      (S : State) (L : List Pair) → Merges n S L → (k : ℕ) (X : Tree) → k < n
-      → In X ((run S L) .tree k) → ((l : ℕ) × (l < n) × In X (S .tree l)) ⊎ Among X (made S L)
-  unfolding run made
-  in-made S [] m k X l h = inl (k, l, h)
-  in-made S (p ∷ L) m k X l h = elim (in-made (step S (p .0) (p .1)) L (m .1) k X l h) [
+  -- and what is one was one before, or was made
+  any-made :
+      (f : Tree → Bool) (S : State) (L : List Pair) → Merges n S L → (k : ℕ) (X : Tree) → k < n
+      → In X ((run S L) .tree k) → f X ≡ true
+      → ((l : ℕ) × (l < n) × In X (S .tree l)) ⊎ (any-in f (made S L) ≡ true)
+  unfolding run made any-in
+  any-made f S [] m k X l h t = inl (k, l, h)
+  any-made f S (p ∷ L) m k X l h t = elim (any-made f (step S (p .0) (p .1)) L (m .1) k X l h t) [
     | inl r ↦ elim (step-cases S (p .0) (p .1) (r .0) (m .0 .left) (m .0 .right) (r .1) X (r .2)) [
-      | inl e ↦ inr (inl e)
+      | inl e ↦ inr (or-left _ _ (rw e at t))
       | inr q ↦ inl q
     ]
-    | inr g ↦ inr (inr g)
+    | inr g ↦ inr (or-right (f (join (S .tree (p .0)) (S .tree (p .1)))) _ g)
   ]
 
   -- the last merge of a list
@@ -240,38 +187,30 @@ module _ (n : ℕ) (big : 3 ≤ n) (M : List Pair) (p : Pair) (size-M : length M
     | inr b ↦ inr (rw (wf-S .closed (p .1) k b) at g)
   ]
 
-  side-in : (X : Tree) → Among X parts → In X A ⊎ In X B
-  side-in X g = elim (among-cases X (tab n leaf) (made start M) g) [
-    | inl a ↦
-        let r = leaf-among n X a in
-        rw (r .2) (elim (or-cases (leaves A (r .0)) (leaves B (r .0)) (two (r .0) (r .1))) [
-          | inl x ↦ inl (leaf-in (r .0) A x)
-          | inr x ↦ inr (leaf-in (r .0) B x)
-        ])
-    | inr b ↦
-        let r = made-in n start (wf-start n) M (last .0) X b in
-        in-two (r .0) (r .1) X (r .2)
-  ]
+  every-part : (f : Tree → Bool) → ((X : Tree) → In X A ⊎ In X B → f X ≡ true) → all-in f parts ≡ true
+  every-part f h =
+      every-append f (tab n leaf) (made start M)
+      (every-tab f n leaf (λ k l. h (leaf k) (in-two k l (leaf k) (leaf-in k (S .tree k) (wf-S .own k)))))
+      (every-made n f start (wf-start n) M (last .0) (λ k X l g. h X (in-two k l X g)))
 
-  from-start : (k : ℕ) → k < n → (X : Tree) → In X (S .tree k) → Among X parts
-  from-start k l X g = elim (in-made n start M (last .0) k X l g) [
-    | inl r ↦ among-left X (tab n leaf) (made start M) (rw (single (r .0) (r .2)) (among-leaf n (r .0) (r .1)))
-    | inr m ↦ among-right X (tab n leaf) (made start M) m
-  ]
+  any-part : (f : Tree → Bool) (X : Tree) → In X A ⊎ In X B → f X ≡ true → any-in f parts ≡ true
+  any-part f X g t = rw (any-append f (tab n leaf) (made start M)) (elim g [
+    | inl a ↦ from (p .0) (last .1 .left) a
+    | inr b ↦ from (p .1) (last .1 .right) b
+  ])
     where
-      single : (l : ℕ) → In X (start .tree l) → X ≡ leaf l
-      single l q = unfold start in q
-
-  in-side : (X : Tree) → In X A ⊎ In X B → Among X parts
-  in-side X g = elim g [
-    | inl a ↦ from-start (p .0) (last .1 .left) X a
-    | inr b ↦ from-start (p .1) (last .1 .right) X b
-  ]
+      from : (k : ℕ) → k < n → In X (S .tree k) → (any-in f (tab n leaf) || any-in f (made start M)) ≡ true
+      from k l h = elim (any-made n f start M (last .0) k X l h t) [
+        | inl r ↦
+            let is : X ≡ leaf (r .0) = unfold start in r .2 in
+            or-left _ _ (any-tab-found f leaf n (r .0) (r .1) (rw is at t))
+        | inr m ↦ or-right (any-in f (tab n leaf)) _ m
+      ]
 
   -- each part is an edge of the tree left, and each edge of it is a part
-  part-edge : (X : Tree) → Among X parts → is-edge n T (leaves X) ≡ true
+  part-edge : (X : Tree) → In X A ⊎ In X B → is-edge n T (leaves X) ≡ true
   part-edge X g =
-      let r = rerooted-side n (join A B) (omega arith) held X (part-join X A B (side-in X g)) in
+      let r = rerooted-side n (join A B) (omega arith) held X (part-join X A B g) in
       let q = ordered-to (rerooted (join A B)) (r .0) (r .1) in
       subtree-edge n T X (q .0) (q .1) (same-trans n X (r .0) (q .0) (r .2) (inl (λ k l. q .2 k)))
 
@@ -280,8 +219,9 @@ module _ (n : ℕ) (big : 3 ≤ n) (M : List Pair) (p : Pair) (size-M : length M
       let q = ordered-of (rerooted (join A B)) Y g in
       let r = rerooted-part n (join A B) (omega arith) held (q .0) (q .1) in
       let same = same-trans n Y (q .0) (r .0) (inl (λ k l. sym (q .2 k))) (r .2) in
-      any-member (one-edge n (leaves Y)) parts (r .0) (in-side (r .0) (join-part (r .0) A B (r .1)))
-      (one-edge-is n Y (r .0) same)
+      rw (any-map (one-edge n (leaves Y)) leaves parts)
+      (any-part (λ X. one-edge n (leaves Y) (leaves X)) (r .0) (join-part (r .0) A B (r .1))
+      (one-edge-is n Y (r .0) same))
 
   -- the two subtrees joined last
   last-sides : one-edge n (leaves A) (leaves B) ≡ true
@@ -292,7 +232,9 @@ module _ (n : ℕ) (big : 3 ≤ n) (M : List Pair) (p : Pair) (size-M : length M
 
   the-edges : FinalEdges n L
   the-edges = record {
-    each-is-a-side = rw (tree-is, sides-are) (every-member (is-edge n T) parts part-edge);
+    each-is-a-side =
+        rw (tree-is, sides-are, all-map (is-edge n T) leaves parts)
+        (every-part (λ X. is-edge n T (leaves X)) part-edge);
     no-other-edge =
         rw (tree-is, sides-are) (every-edge (λ e. any-in (one-edge n e) (map leaves parts)) T edge-part);
     so-many = rw tree-is (omega (arith, edge-count T, tree-size n T (drawn-on n T d) (omega arith)));

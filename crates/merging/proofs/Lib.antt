@@ -2,12 +2,12 @@ pub mod States
 pub mod MergeLists
 pub mod Runs
 pub mod Values
-pub mod Soundness
-pub mod Completeness
-pub mod ThreeSubtrees
-pub mod Exchange
+mod Soundness
+mod Completeness
+mod ThreeSubtrees
+mod Exchange
 pub mod Rebuilds
-pub mod Ends
+mod Ends
 pub mod Rooted
 pub mod Demand3
 pub mod Meaning

@@ -188,7 +188,8 @@ module _ (n : ℕ) (T : Tree) (t : IsTree n T) (i j : ℕ) (ij : i < j) (jn : j 
           cell-rising z w i j zw ij,
         )
     | inr e ↦
-        rw (hit x y z w, hit z w x y, ← paired-either T x y z w, e, indicator-none (hits x y), indicator-none (hits z w))
+        let none = indicator-none (hits x y) in
+        rw (hit x y z w, hit z w x y, ← paired-either T x y z w, e, none, indicator-none (hits z w))
   ]
 
   own-either :

@@ -108,14 +108,14 @@ room-small due room = arises-unless SmallRefusal (leb due room) _ tt
 
 -- the place in a listing
 broken-small :
-    (n : ℕ) (before : List ℕ) (p : ℕ) (l : List ℕ) → p + length l < 65536
-    → SmallIfRefused (rules-refusal-from n before p l)
+    (n : ℕ) (before : List ℕ) (i p : ℕ) (l : List ℕ) → p + length l < 65536
+    → SmallIfRefused (rules-refusal-from n before i p l)
 unfolding rules-refusal-from
-broken-small n before p [] h = tt
-broken-small n before p (c ∷ l) h = elim (bool? (child n (p / 2) c)) [
+broken-small n before i p [] h = tt
+broken-small n before i p (c ∷ l) h = elim (bool? (child n (i / 2) c)) [
   | inl t ↦ elim (bool? (any-in (eqb c) before)) [
     | inl u ↦ rw (t, u) (omega arith, tt)
-    | inr u ↦ rw (t, u) (broken-small n (c ∷ before) (suc p) l (omega arith))
+    | inr u ↦ rw (t, u) (broken-small n (c ∷ before) (suc i) (suc p) l (omega arith))
   ]
   | inr t ↦ rw t (omega arith, tt)
 ]
@@ -130,7 +130,7 @@ listing-small n l due room =
     (λ d. last-small (rules-refusal n l) (places (count-right n a) (length-right _ _ b)))))
   where
     places : IsLeafCount n → length l ≡ 2 * (n - 2) → SmallIfRefused (rules-refusal n l)
-    places k e = unfold rules-refusal in broken-small n [] 0 l (omega (arith, k))
+    places k e = unfold rules-refusal in broken-small n [] 0 0 l (omega (arith, k))
 
 -- a table as it is judged, and its cells
 table-causes : (n : ℕ) → CellCauses SmallRefusal n

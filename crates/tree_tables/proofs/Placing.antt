@@ -33,25 +33,25 @@ any-more x c l h = or-neither (eqb x c) (any-in (eqb x) l) h
 -- What the rules say of the child at a place: it is no leaf 0, and differs from those named before.
 module _ (n : ℕ) where
   rest-keeps :
-      (before : List ℕ) (p c : ℕ) (l : List ℕ) → rules-refusal-from n before p (c ∷ l) ≡ none
-      → rules-refusal-from n (c ∷ before) (suc p) l ≡ none
+      (before : List ℕ) (p c : ℕ) (l : List ℕ) → rules-refusal-from n before p p (c ∷ l) ≡ none
+      → rules-refusal-from n (c ∷ before) (suc p) (suc p) l ≡ none
   rest-keeps before p c l h =
-      let r = place-kept n before p c l h in
-      sym (place-keeps n before p c l (r .0) (r .1)) ∙ h
+      let r = place-kept n before p p c l h in
+      sym (place-keeps n before p p c l (r .0) (r .1)) ∙ h
 
   new-at :
-      0 < n → (before : List ℕ) (p : ℕ) (l : List ℕ) → rules-refusal-from n before p l ≡ none → (q : ℕ) → q < length l
+      0 < n → (before : List ℕ) (p : ℕ) (l : List ℕ) → rules-refusal-from n before p p l ≡ none → (q : ℕ) → q < length l
       → (0 < getD l q 0) × (any-in (eqb (getD l q 0)) before ≡ false)
   new-at z before p [] h q lq = absurd (omega arith)
   new-at z before p (c ∷ l) h zero lq =
-      let r = place-kept n before p c l h in
+      let r = place-kept n before p p c l h in
       (child-in n (p / 2) c z (r .0) .0, r .1)
   new-at z before p (c ∷ l) h (suc q) lq =
       let r = new-at z (c ∷ before) (suc p) l (rest-keeps before p c l h) q (omega arith) in
       (r .0, any-more (getD l q 0) c before (r .1) .1)
 
   differ-at :
-      0 < n → (before : List ℕ) (p : ℕ) (l : List ℕ) → rules-refusal-from n before p l ≡ none → (q r : ℕ) → q < r
+      0 < n → (before : List ℕ) (p : ℕ) (l : List ℕ) → rules-refusal-from n before p p l ≡ none → (q r : ℕ) → q < r
       → r < length l → getD l q 0 ≢ getD l r 0
   differ-at z before p [] h q r lq lr e = omega arith
   differ-at z before p (c ∷ l) h q zero lq lr e = omega arith

@@ -115,7 +115,8 @@ pub inner-sum-most : (Z : Tree) (i : ℕ) → Distinct Z → inner-sum Z i ≤ P
 inner-sum-most (leaf x) i d = rw inner-sum-leaf (omega arith)
 inner-sum-most (node X Y) i d = elim (bool? (leaves X i)) [
   | inl a ↦
-      rw (inner-sum-left X Y i a (d .2 i a)) (most (size X) (size Y) _ (size-pos X) (size-node X Y) (inner-sum-most X i (d .0)))
+      rw (inner-sum-left X Y i a (d .2 i a))
+      (most (size X) (size Y) _ (size-pos X) (size-node X Y) (inner-sum-most X i (d .0)))
   | inr a ↦ elim (bool? (leaves Y i)) [
     | inl b ↦
         let sizes = size-node X Y ∙ add-comm (size X) (size Y) in

@@ -24,8 +24,8 @@ use Rattle.trees.proofs.Tables.{halves-equal, HasCells, to-cells, of-ce
 gap-example :
     total-gap 3 1 (0 ∷ 1 ∷ 2 ∷ 1 ∷ 0 ∷ 4 ∷ 2 ∷ 4 ∷ 0 ∷ []) (node (leaf 1) (leaf 2)) ≡ 7
 unfolding
-    total-gap gap-size pair-sum sum-below distance cell quartets pairs-below count-below other paired edges any-in separates
-    leaves
+    total-gap gap-size pair-sum sum-below distance cell quartets pairs-below count-below other paired edges any-in
+    separates leaves
 gap-example = refl
 
 module _ (n s : ℕ) (t : List ℕ) (T : Tree) where

@@ -4,27 +4,23 @@
 use mathlib.Core.Path.{_≡_, refl, sym, _∙_}
 use mathlib.Core.Logic.{_⊎_, inl, inr, _≢_}
 use mathlib.Core.Bool.{true, false, _||_, or-comm}
-use mathlib.Core.List.{_++_}
 use Prim.Native.Nat.{ℕ, _<_}
 use native.Mathlib.Omega.{arith}
 use native.Mathlib.Decide.{decLt, ℕ-discrete}
 use borrow.Author.Tests.{ltb-true, lt-ltb, le-ltb, ne-eqb}
 use lib.Dec.{ltb}
-use Rattle.base.specs.Lists.{any-in, all-in}
-use Rattle.base.proofs.Bools.{bool?, never, is-false, bool-iff, or-left, or-right, or-none, or-cases}
+use Rattle.base.proofs.Bools.{bool?, never, is-false, bool-iff, or-left, or-none, or-cases}
 use Rattle.base.proofs.Counts.{indicator-le}
-use Rattle.base.proofs.Lists.{any-append, every-append}
 use Rattle.trees.specs.Trees.{Tree, leaf, node, leaves, occurrences, IsTree, least, join, ordered}
 use Rattle.trees.specs.Rerooting.{IsHeld, reroot-along, rerooted}
-use Rattle.trees.specs.Edges.{edges, one-edge, is-edge}
 use Rattle.trees.specs.Quartets.{separates, paired, quartets}
 use Rattle.trees.proofs.Trees.{leaves-node, leaves-join, leaf-eq, least-in, least-le, Apart, apart-sym}
-use Rattle.trees.proofs.Trees.{join-in-order, join-comm, join-either, apart-join, Distinct, Within, ordered-leaves, ordered-apart}
+use Rattle.trees.proofs.Trees.{join-in-order, join-comm, join-either, apart-join, Distinct, Within}
+use Rattle.trees.proofs.Trees.{ordered-leaves, ordered-apart}
 use Rattle.trees.proofs.Trees.{ordered-in-order, ordered-is, occurrences-some}
 use Rattle.trees.proofs.Trees.{occurrences-none, occurrences-once, once-distinct, tree-on, root-within}
 use Rattle.trees.proofs.Trees.{root-distinct, root-all}
-use Rattle.trees.proofs.Subtrees.{In, in-whole, any-edge, every-edge, Same, same-refl, same-trans}
-use Rattle.trees.proofs.Subtrees.{one-edge-is, subtree-edge}
+use Rattle.trees.proofs.Subtrees.{In, in-whole, Part, part-in, in-part, swap, Same, same-refl, same-trans}
 use Rattle.trees.proofs.Quartets.{separates-in, paired-by, quartets-ext}
 
 -- a tree held at an edge: the statement that proofs use for `IsHeld`
@@ -71,8 +67,14 @@ pub rerooted-again : (T : Tree) → rerooted (node (leaf 0) T) ≡ T
 unfolding rerooted reroot-along leaves
 rerooted-again T = refl
 
--- What three turns keep, rerooting keeps: the two children of the top swapped; those of its first child; and the edge at
--- which the tree is held moved to the next one.
+-- what lay above comes first
+rerooted-example :
+    rerooted (node (node (leaf 2) (node (leaf 0) (leaf 1))) (leaf 3)) ≡ node (node (leaf 3) (leaf 2)) (leaf 1)
+unfolding rerooted reroot-along leaves
+rerooted-example = refl
+
+-- What three turns keep, rerooting keeps: the two children of the top swapped; those of its first child; and the edge
+-- at which the tree is held moved to the next one.
 module _ (Q : Tree → Type 0) (flip : (A B : Tree) → Q (node A B) → Q (node B A))
     (mirror : (A A′ B : Tree) → Q (node (node A A′) B) → Q (node (node A′ A) B))
     (turn : (A A′ B : Tree) → Q (node (node A A′) B) → Q (node A (node B A′))) where
@@ -90,28 +92,6 @@ module _ (Q : Tree → Type 0) (flip : (A B : Tree) → Q (node A B) → Q (node
     | inl t ↦ rw t (along A B t q)
     | inr f ↦ rw f (along B A (rw (leaves-node, f) at z) (flip A B q))
   ]
-
--- X is a subtree of R, and not the whole
-abbrev pub Part : Tree → Tree → Type 0
-Part X (leaf i) = ⊥
-Part X (node A B) = In X A ⊎ In X B
-
-part-in : (R X : Tree) → Part X R → In X R
-part-in (leaf i) X h = absurd h
-part-in (node A B) X h = inr h
-
-in-part : (R X : Tree) → In X R → (X ≡ R) ⊎ Part X R
-in-part (leaf i) X h = inl h
-in-part (node A B) X h = h
-
-swap : {X Y : Type 0} → X ⊎ Y → Y ⊎ X
-swap h = elim h [ inl a ↦ inr a | inr b ↦ inl b ]
-
-pub part-join : (X A B : Tree) → In X A ⊎ In X B → Part X (join A B)
-part-join X A B h = elim (join-either A B) [ inl e ↦ rw e h | inr e ↦ rw e (swap h) ]
-
-pub join-part : (X A B : Tree) → Part X (join A B) → In X A ⊎ In X B
-join-part X A B h = elim (join-either A B) [ inl e ↦ rw e at h | inr e ↦ swap (rw e at h) ]
 
 module _ (n : ℕ) where
   -- the two children of the top are the two sides of one edge
@@ -137,7 +117,12 @@ module _ (n : ℕ) where
   mirror-sides : (A A′ B : Tree) → Sides (node (node A A′) B) (node (node A′ A) B)
   mirror-sides A A′ B X h = elim h [
     | inl a ↦ elim a [
-      | inl e ↦ (node A′ A, inl (inl refl), rw e (inl (λ k l. rw (leaves-node, leaves-node) (or-comm (leaves A k) (leaves A′ k)))))
+      | inl e ↦ (
+        node A′ A,
+        inl (inl refl),
+        rw e (inl (λ k l.
+            rw (leaves-node k A A′, leaves-node k A′ A) (or-comm (leaves A k) (leaves A′ k)))),
+      )
       | inr x ↦ (X, inl (inr (swap x)), same-refl n X)
     ]
     | inr b ↦ (X, inr b, same-refl n X)
@@ -226,7 +211,8 @@ module _ (n : ℕ) where
     pub rerooted-paired :
         (i j p q : ℕ) → i < n → j < n → p < n → q < n → paired (rerooted R) i j p q ≡ paired R i j p q
     rerooted-paired i j p q li lj lp lq =
-        bool-iff _ _ (paired-by n (rerooted R) R i j p q li lj lp lq down) (paired-by n R (rerooted R) i j p q li lj lp lq up)
+        bool-iff _ _ (paired-by n (rerooted R) R i j p q li lj lp lq down)
+        (paired-by n R (rerooted R) i j p q li lj lp lq up)
       where
         down : (Y : Tree) → In Y (rerooted R) → separates (leaves Y) i j p q ≡ true → (X : Tree) × In X R × Same n Y X
         down Y y t = let r = rerooted-part Y y in (r .0, part-in R (r .0) (r .1), r .2)
@@ -243,33 +229,6 @@ module _ (n : ℕ) where
     pub rerooted-quartets : (i j : ℕ) → i < n → j < n → quartets n (rerooted R) i j ≡ quartets n R i j
     rerooted-quartets i j li lj =
         quartets-ext n (rerooted R) R i j (λ p q lp lq. rerooted-paired i j p q li lj lp lq)
-
--- the edges of the two parts, those above the parts being one, are the edges of the rerooted tree, and it has no other
-pub rerooted-edges :
-    (n : ℕ) (A B : Tree) → 1 < n → IsHeld n (node A B)
-    → (all-in (is-edge n (rerooted (node A B))) (edges A ++ edges B) ≡ true)
-    × (all-in (λ e. any-in (one-edge n e) (edges A ++ edges B)) (edges (rerooted (node A B))) ≡ true)
-rerooted-edges n A B many h = (
-  every-append (is-edge n T) (edges A) (edges B) (every-edge (is-edge n T) A (λ X g. side X (inl g)))
-      (every-edge (is-edge n T) B (λ X g. side X (inr g))),
-  every-edge (λ e. any-in (one-edge n e) (edges A ++ edges B)) T part,
-)
-  where
-    T : Tree
-    T = rerooted (node A B)
-
-    side : (X : Tree) → In X A ⊎ In X B → is-edge n T (leaves X) ≡ true
-    side X g = let r = rerooted-side n (node A B) many h X g in subtree-edge n T X (r .0) (r .1) (r .2)
-
-    part : (Y : Tree) → In Y T → any-in (one-edge n (leaves Y)) (edges A ++ edges B) ≡ true
-    part Y g =
-        let r = rerooted-part n (node A B) many h Y g in
-        let f = one-edge n (leaves Y) in
-        let t = one-edge-is n Y (r .0) (r .2) in
-        rw (any-append f (edges A) (edges B)) (elim (r .1) [
-          | inl a ↦ or-left _ _ (any-edge f A (r .0) a t)
-          | inr b ↦ or-right (any-in f (edges A)) _ (any-edge f B (r .0) b t)
-        ])
 
 -- Rerooting and standard order. A has leaf 0, and B has not.
 abbrev ZeroIn : Tree → Tree → Type 0

@@ -3,18 +3,14 @@
 -- Under each number stand distinct leaves below n, and what stands under the node of a row is a subtree of the tree.
 use mathlib.Core.Path.{_≡_, refl, sym, _∙_}
 use mathlib.Core.Logic.{inl, inr}
-use mathlib.Core.Bool.{Bool, true, cond}
+use mathlib.Core.Bool.{Bool, true}
 use mathlib.Core.List.{List, [], _∷_}
 use mathlib.Core.Option.{none}
 use Prim.Native.Nat.{ℕ, zero, suc, _+_, _-_, _*_, _/_, _<_}
 use native.Mathlib.Nat.{zero-add, add-zero}
-use native.Mathlib.Numerals.{add-one}
 use native.Mathlib.Omega.{arith}
 use native.Mathlib.Decide.{decLt, ℕ-discrete}
-use borrow.Author.Tests.{ne-eqb}
-use lib.Dec.{eqb}
 use lib.ListN.{length, getD}
-use Rattle.base.proofs.Bools.{eqb-same}
 use Rattle.limits.specs.Limits.{IsLeafCount}
 use Rattle.trees.specs.Trees.{Tree, leaf, node}
 use Rattle.trees.specs.Listings.{child, rules-refusal-from, rules-refusal, KeepsRules, with-rows, subtree-at}
@@ -22,21 +18,9 @@ use Rattle.trees.specs.Listings.{tree-of}
 use Rattle.trees.proofs.Trees.{leaf-eq, Distinct, Within}
 use Rattle.trees.proofs.Subtrees.{In, in-whole}
 use Rattle.trees.specs.inner.Forests.{use-row, uses, lawful}
-use Rattle.trees.proofs.Forests.{LawfulRow, lawful-row, row-lawful, Forest}
-use Rattle.trees.proofs.Forests.{live-r, live-keep, forest-start, lawful-forest, last-alone}
+use Rattle.trees.proofs.Forests.{LawfulRow, row-lawful, Forest, with-one-row, row-old, row-new, forest-row}
+use Rattle.trees.proofs.Forests.{live-r, live-keep, forest-start, last-alone}
 use Rattle.trees.proofs.Rules.{child-in, place-keeps, place-kept, to-lawful}
-
--- the subtrees after one row, a b, of node r
-with-one-row : (ℕ → Tree) → ℕ → ℕ → ℕ → ℕ → Tree
-with-one-row f r a b k = cond (eqb k r) (node (f a) (f b)) (f k)
-
-row-old : (f : ℕ → Tree) (r a b k : ℕ) → k < r → with-one-row f r a b k ≡ f k
-unfolding with-one-row
-row-old f r a b k l = rw (ne-eqb k r (omega arith))
-
-row-new : (f : ℕ → Tree) (r a b : ℕ) → with-one-row f r a b r ≡ node (f a) (f b)
-unfolding with-one-row
-row-new f r a b = rw (eqb-same r)
 
 -- rows change nothing under the numbers before them
 pub rows-old : (f : ℕ → Tree) (r : ℕ) (l : List ℕ) (k : ℕ) → k < r → with-rows f r l k ≡ f k
@@ -80,15 +64,15 @@ subtree-at-node n l k h p q = rows-node leaf n l k h p q
 
 -- what the rules say of each place
 kept-at :
-    (n : ℕ) (before : List ℕ) (p : ℕ) (l : List ℕ) → rules-refusal-from n before p l ≡ none → (q : ℕ) → q < length l
-    → child n ((p + q) / 2) (getD l q 0) ≡ true
-kept-at n before p [] h q lq = absurd (omega arith)
-kept-at n before p (c ∷ l) h zero lq = rw (add-zero p) (place-kept n before p c l h .0)
-kept-at n before p (c ∷ l) h (suc q) lq =
-    let here = place-kept n before p c l h in
-    let rest = sym (place-keeps n before p c l (here .0) (here .1)) ∙ h in
-    let up : p + suc q ≡ suc p + q = omega arith in
-    rw up (kept-at n (c ∷ before) (suc p) l rest q (omega arith))
+    (n : ℕ) (before : List ℕ) (i p : ℕ) (l : List ℕ) → rules-refusal-from n before i p l ≡ none → (q : ℕ)
+    → q < length l → child n ((i + q) / 2) (getD l q 0) ≡ true
+kept-at n before i p [] h q lq = absurd (omega arith)
+kept-at n before i p (c ∷ l) h zero lq = rw (add-zero i) (place-kept n before i p c l h .0)
+kept-at n before i p (c ∷ l) h (suc q) lq =
+    let here = place-kept n before i p c l h in
+    let rest = sym (place-keeps n before i p c l (here .0) (here .1)) ∙ h in
+    let up : i + suc q ≡ suc i + q = omega arith in
+    rw up (kept-at n (c ∷ before) (suc i) (suc p) l rest q (omega arith))
 
 -- A listing that keeps the rules.
 module _ (n : ℕ) (l : List ℕ) (c : IsLeafCount n) (w : KeepsRules n l) where
@@ -96,7 +80,7 @@ module _ (n : ℕ) (l : List ℕ) (c : IsLeafCount n) (w : KeepsRules n l) where
   pub child-before : (p : ℕ) → p < length l → getD l p 0 < n + p / 2
   unfolding rules-refusal
   child-before p h =
-      child-in n (p / 2) (getD l p 0) (omega (arith, c .0)) (rw zero-add at (kept-at n [] 0 l (w .rules) p h)) .1
+      child-in n (p / 2) (getD l p 0) (omega (arith, c .0)) (rw zero-add at (kept-at n [] 0 0 l (w .rules) p h)) .1
 
   -- the node of row k
   pub subtree-at-row :
@@ -107,16 +91,10 @@ module _ (n : ℕ) (l : List ℕ) (c : IsLeafCount n) (w : KeepsRules n l) where
       let second = child-before (2 * k + 1) (omega (arith, w .numbers)) in
       subtree-at-node n l k (omega (arith, w .numbers)) (omega arith) (omega arith)
 
--- each row makes a tree of distinct leaves below n
 after-row :
     {n r : ℕ} {f : ℕ → Tree} {live : ℕ → Bool} {a b : ℕ} {l : List ℕ} → Forest n r f live → LawfulRow live r a b l
     → Forest n (suc r) (with-one-row f r a b) (use-row live r a b)
-unfolding with-one-row
-after-row {r = r} {live = live} {a} {b} w p =
-    unfold with-rows uses in
-    rw (add-one r)
-    at (lawful-forest w 1 (a ∷ b ∷ []) refl
-    (lawful-row live r a b [] (p .first) (p .second) (p .differ) (unfold lawful in refl)))
+after-row {a = a} {b} w p = forest-row w a b (p .first) (p .second) (p .differ)
 
 -- a subtree of an item not yet used is a subtree of an item that is left after the rows
 part-left :

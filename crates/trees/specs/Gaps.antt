@@ -1,5 +1,5 @@
--- The total gap between a table and a tree (02): the sum over i < j of the gap's size. At the scale s gaps are taken from
--- s times the tree's counts; s is 1 for a count table.
+-- The total gap between a table and a tree (02): the sum over i < j of the gap's size. At the scale s gaps are taken
+-- from s times the tree's counts; s is 1 for a count table.
 use mathlib.Core.List.{List}
 use Prim.Native.Nat.{ℕ, _*_}
 use Rattle.base.specs.Numbers.{pair-sum, distance}

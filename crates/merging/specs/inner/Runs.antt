@@ -1,4 +1,4 @@
--- Eligibility and lists of merges as statements: two subtrees are different, a pair is eligible, a state runs to another.
+-- Eligibility and lists of merges as statements: two subtrees differ, a pair is eligible, a state runs to another.
 -- Inner contracts and proofs speak so; the tests are `eligible` and `allowed`.
 use mathlib.Core.Path.{_≡_}
 use mathlib.Core.Bool.{true, false}
