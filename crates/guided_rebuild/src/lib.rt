@@ -1,5 +1,6 @@
 // The guided rebuild: the proposals are followed one after the other, as far as each names an eligible pair.
 use eligible_pairs::pair_fits;
+use limits::Kind;
 use limits::MOST_LEAVES;
 use own_rebuild::rebuild_checked;
 use refusals::Outcome;
@@ -140,6 +141,16 @@ fn guided_checked(n: usize, table: &[u32], merges: &[u16], out: &mut [u16]) -> O
     rebuild_checked(n, table, b"", out)
 }
 
+// How many leaves n - 1 proposals name; 0 where no tree has n leaves.
+fn proposed_leaves(n: usize) -> usize
+    ensures { λ r. ⌜ (IsLeafCount n → r ≡ 2 * (n - 1)) ⌝ }
+{
+    if !checks::leaf_count(n) {
+        return 0;
+    }
+    2 * (n - 1)
+}
+
 // The guided rebuild: the same, where each of the proposed merges names a pair that is eligible at its turn.
 pub fn rebuild_guided(n: usize, table: &[u32], merges: &[u16], out: &mut [u16]) -> Outcome
     ensures answer { λ r. ⌜ r
@@ -151,15 +162,13 @@ pub fn rebuild_guided(n: usize, table: &[u32], merges: &[u16], out: &mut [u16]) 
         (GuidedMeans n (now (table .entry)) (now (merges .entry)) (length (now (out .entry)))) r
         (now (out .entry)) (now (out .exit)) ⌝ }
 {
-    if !checks::leaf_count(n) {
-        return Outcome::Refused(Refusal::LeafCount);
-    }
-    if merges.len() != 2 * (n - 1) {
-        return Outcome::Refused(Refusal::InputLength);
-    }
-    let table_judged = table_checks::judge(n, table, 2 * (n - 2), out.len());
-    let Outcome::Done = table_judged else {
-        return table_judged;
+    let input = checks::judge_input(Kind::Counts, n, proposed_leaves(n), merges.len());
+    let Outcome::Done = input else {
+        return input;
+    };
+    let judged = table_checks::judge(n, table, checks::listing_numbers(n), out.len());
+    let Outcome::Done = judged else {
+        return judged;
     };
     guided_checked(n, table, merges, out)
 }

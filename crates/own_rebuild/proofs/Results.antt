@@ -12,10 +12,12 @@ use lib.Seq.{length-take-le}
 use Rattle.refusals.specs.declared.Refusal.the-variants.{NoTree}
 use Rattle.refusals.specs.declared.Outcome.the-variants.{Done, Refused}
 use Rattle.base.proofs.Bools.{or-left, or-right, is-false, never}
+use Rattle.limits.specs.declared.Kind.the-variants.{Counts}
 use Rattle.limits.specs.Limits.{IsLeafCount}
 use Rattle.pair_counts.specs.Pairs.{P}
 use Rattle.pair_counts.proofs.Pairs.{P-zero}
 use Rattle.refusals.specs.Refusals.{accepted, refused, answered, outcome, written}
+use Rattle.refusals.proofs.Answers.{judged-passes, judged-alone}
 use Rattle.trees.specs.Trees.{leaf, leaves, size, least}
 use Rattle.trees.specs.Listings.{tree-of, standard}
 use Rattle.trees.specs.Tables.{cell, IsTable}
@@ -27,8 +29,8 @@ use Rattle.merging.proofs.States.{WellFormed, wf-start, full-sizes}
 use Rattle.merging.proofs.Runs.{wf-runs}
 use Rattle.merging.proofs.Values.{m-pairs}
 use Rattle.merging.proofs.Rooted.{Rooted, rooted-result, rooted-two, rooted-refused}
-use Rattle.listings.specs.Operations.{standardise-answer}
-use Rattle.listings.proofs.ListingRefusal.{rules-left}
+use Rattle.checks.proofs.Sizes.{sizes-pass}
+use Rattle.listings.specs.Operations.{listing-refusal, standardise-answer}
 use Rattle.leaf_merges.specs.inner.LeafMerges.{LeavesMerged}
 use Rattle.own_rebuild.specs.inner.OneSubtree.{OneSubtreeFits}
 use Rattle.state_arrays.proofs.StateArrays.{in-label}
@@ -153,10 +155,11 @@ module _ {n : ℕ} {table label m sizes names rows : List ℕ} {r : ℕ} (count 
     is-rebuilt = rooted-result n 1 big (omega arith) table is-table (b .forest .came) zero (whole-rooted q)
 
     pub standard-rebuilt : (room : ℕ) → 2 * (n - 2) ≤ room → standardise-answer n rows-made room ≡ rebuilt n 1 table
-    unfolding standardise-answer answered
+    unfolding standardise-answer answered listing-refusal
     standard-rebuilt room enough =
+        let sizes = sizes-pass Counts n _ _ _ room (record { count = count; long = rows-long; enough = enough }) in
         let keeps = of-lawful n (omega (arith, big)) rows-made lawful-rows in
-        rw (rules-left n rows-made (2 * (n - 2)) room count rows-long enough ∙ keeps, top-tree) (sym is-rebuilt)
+        rw (judged-passes _ sizes ∙ judged-alone _ ∙ keeps, top-tree) (sym is-rebuilt)
 
     pub rebuilt-done : Done ≡ outcome (rebuilt n 1 table)
     unfolding outcome

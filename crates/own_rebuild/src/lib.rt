@@ -2,6 +2,7 @@
 // `packed`.
 use eligible_pairs::as_expected;
 use eligible_pairs::cell_at;
+use limits::Kind;
 use limits::MOST_LEAVES;
 use refusals::Outcome;
 use refusals::Refusal;
@@ -87,14 +88,21 @@ pub fn rebuild(n: usize, table: &[u32], out: &mut [u16]) -> Outcome
     ensures meaning { λ r. ⌜ Gives outcome (RebuildMeans n (now (table .entry)) (length (now (out .entry)))) r
         (now (out .entry)) (now (out .exit)) ⌝ }
 {
-    if !checks::leaf_count(n) {
-        return Outcome::Refused(Refusal::LeafCount);
-    }
-    let judged = table_checks::judge(n, table, 2 * (n - 2), out.len());
+    let judged = table_checks::judge(n, table, checks::listing_numbers(n), out.len());
     let Outcome::Done = judged else {
         return judged;
     };
     rebuild_checked(n, table, b"", out)
+}
+
+// How many bytes a packed table of n leaves has; 0 where no tree has n leaves.
+fn packed_bytes(n: usize) -> usize
+    ensures { λ r. ⌜ (IsLeafCount n → r ≡ n * (n - 1)) ⌝ }
+{
+    if !checks::leaf_count(n) {
+        return 0;
+    }
+    n * (n - 1)
 }
 
 // Our own rebuild of a packed table: the cells above the diagonal, row by row, in two bytes each, low byte first.
@@ -103,15 +111,17 @@ pub fn rebuild_packed(n: usize, packed: &[u8], out: &mut [u16]) -> Outcome
     ensures buffer { λ _. ⌜ now (out .exit)
         ≡ written (packed-answer n (now (packed .entry)) (length (now (out .entry)))) (now (out .entry)) ⌝ }
 {
-    if !checks::leaf_count(n) {
-        return Outcome::Refused(Refusal::LeafCount);
-    }
-    if packed.len() != n * (n - 1) {
-        return Outcome::Refused(Refusal::InputLength);
-    }
-    if out.len() < 2 * (n - 2) {
-        return Outcome::Refused(Refusal::OutputRoom);
-    }
+    let judged = checks::judge_sizes(
+        Kind::Counts,
+        n,
+        packed_bytes(n),
+        packed.len(),
+        checks::listing_numbers(n),
+        out.len(),
+    );
+    let Outcome::Done = judged else {
+        return judged;
+    };
     let cells: [u32; 0] = [];
     rebuild_checked(n, &cells, packed, out)
 }

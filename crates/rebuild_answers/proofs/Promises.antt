@@ -10,13 +10,11 @@ use lib.ListN.{length}
 use Rattle.refusals.specs.declared.Refusal.the-variants.{NoTree, Proposal}
 use Rattle.refusals.specs.Refusals.{Answer, accepted, refused, written}
 use Rattle.refusals.specs.Meanings.{Gives}
-use Rattle.refusals.proofs.Answers.{judged-none, unless-accepted, unless-passed, accepted-not-refused}
+use Rattle.refusals.proofs.Answers.{unless-accepted, unless-passed, accepted-not-refused}
 use Rattle.refusals.proofs.Meanings.{unless-means, unless-fixed, with-meaning}
 use Rattle.base.proofs.Bools.{bool?}
 use Rattle.trees.specs.Listings.{KeepsRules, tree-of, standard}
 use Rattle.trees.specs.Tables.{HasTable}
-use Rattle.checks.specs.Sizes.{count-refusal, length-refusal}
-use Rattle.listings.proofs.ListingRefusal.{length-right}
 use Rattle.table_checks.specs.Operations.{table-refusal}
 use Rattle.table_checks.proofs.TableRefusal.{Accepted, accepted-table}
 use Rattle.merging.specs.MergeLists.{Pair, after, each-eligible, Finished, subtrees, final-listing}
@@ -27,7 +25,7 @@ use Rattle.merging.proofs.Meaning as meaning
 use Rattle.merging.proofs.Rebuilds.{guided-accepted, guided-refused}
 use Rattle.rebuild_answers.specs.Operations.{rebuild-answer, proposals, guided-refusal, guided-answer}
 use Rattle.rebuild_answers.specs.Meanings.{RebuildMeans, GuidedMeans}
-use Rattle.rebuild_answers.proofs.RebuildRefusals.{many-proposals}
+use Rattle.rebuild_answers.proofs.RebuildRefusals.{guided-sizes, many-proposals}
 
 module _ (n : ℕ) (t : List ℕ) (room : ℕ) where
   -- The call passes the checks placed before 6.
@@ -100,23 +98,18 @@ module _ (n : ℕ) (t : List ℕ) (room : ℕ) where
 module _ (n : ℕ) (t p : List ℕ) (room : ℕ) where
   -- The guided rebuild, in a call that passes the checks placed before 12.
   module _ (passes : guided-refusal n t p room ≡ none) where
-    -- the sizes are right, and nothing of the table is refused
-    pub guided-sizes : (length p ≡ 2 * (n - 1)) × (table-refusal n t (2 * (n - 2)) room ≡ none)
-    unfolding guided-refusal
-    guided-sizes =
-        let a = judged-none (count-refusal n) _ passes in
-        let b = judged-none (length-refusal (2 * (n - 1)) (length p)) _ (a .1) in
-        (length-right _ _ (b .0), (judged-none (table-refusal n t (2 * (n - 2)) room) _ (b .1)) .0)
+    sizes : (length p ≡ 2 * (n - 1)) × (table-refusal n t (2 * (n - 2)) room ≡ none)
+    sizes = guided-sizes n t p room passes
 
     guided-is : guided-answer n t p room ≡ guided n 1 t (proposals p)
     unfolding guided-answer
     guided-is = unless-passed _ _ passes
 
     guided-table : Accepted n t (2 * (n - 2)) room
-    guided-table = table n t room (guided-sizes .1)
+    guided-table = table n t room (sizes .1)
 
     many : length (proposals p) ≡ n - 1
-    many = many-proposals n p (guided-sizes .0)
+    many = many-proposals n p (sizes .0)
 
     proposals-mean : ProposalsMean n t (proposals p) (guided n 1 t (proposals p))
     proposals-mean =
@@ -128,7 +121,7 @@ module _ (n : ℕ) (t p : List ℕ) (room : ℕ) where
     guided-as-rebuild each =
         guided-is
         ∙ meaning.guided-as-rebuilt n (guided-table .count) t (guided-table .is-table) (proposals p) many each
-        ∙ sym (answer n t room (guided-sizes .1))
+        ∙ sym (answer n t room (sizes .1))
 
     -- otherwise it is refused with the place of its first step that does not
     pub guided-refused-at :
