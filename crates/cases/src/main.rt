@@ -102,7 +102,7 @@ const FIVE: [u32; 25] = [
 fn rebuild_five() {
     let mut listing = [0u16; 6];
     io::write_all(1, b"rebuild of five leaves: ");
-    say(reconstruct::rebuild(5, &FIVE, &mut listing));
+    say(own_rebuild::rebuild(5, &FIVE, &mut listing));
     say_listing(&listing);
 }
 
@@ -113,14 +113,14 @@ fn rebuild_damaged() {
     cells[1] = 2;
     cells[5] = 2;
     io::write_all(1, b"rebuild with one count changed: ");
-    say(reconstruct::rebuild(5, &cells, &mut listing));
+    say(own_rebuild::rebuild(5, &cells, &mut listing));
     say_listing(&listing);
 }
 
 // P7's table guided by these merges.
 fn guide_five(merges: &[u16; 8]) {
     let mut listing = [9u16; 6];
-    say_guided(reconstruct::rebuild_guided(5, &FIVE, merges, &mut listing));
+    say_guided(guided_rebuild::rebuild_guided(5, &FIVE, merges, &mut listing));
     say_listing(&listing);
 }
 
@@ -153,7 +153,7 @@ fn leaf_count(n: usize) {
     let mut rebuilt = [0u16; limits::MOST_NUMBERS];
     say(listings::check(n, &listing));
     say(tree_tables::table(n, &listing, &mut cells));
-    say(reconstruct::rebuild(n, &cells, &mut rebuilt));
+    say(own_rebuild::rebuild(n, &cells, &mut rebuilt));
 }
 
 // A poll of n leaves that has this one record.

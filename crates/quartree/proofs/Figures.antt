@@ -33,9 +33,8 @@ use Rattle.tree_tables.specs.Operations.{table-answer, gap-refusal, gap-answer}
 use Rattle.merging.specs.MergeLists.{Pair, after, each-eligible, subtrees}
 use Rattle.merging.specs.Rebuilds.{result, rebuilt, guided}
 use Rattle.merging.proofs.Rebuilds.{own-list, rebuilt-own, guided-accepted, guided-refused}
-use Rattle.reconstruct.specs.Operations.{rebuild-answer, proposals, guided-refusal, guided-answer}
-use Rattle.reconstruct.proofs.Proposals.{many-proposals}
-use Rattle.reconstruct.proofs.Promises.{guided-sizes}
+use Rattle.rebuild_answers.specs.Operations.{rebuild-answer, proposals, guided-refusal, guided-answer}
+use Rattle.rebuild_answers.proofs.RebuildRefusals.{guided-sizes, many-proposals}
 use Rattle.sheet_trees.specs.Operations.{outcome-number}
 use Rattle.quartree.specs.Replies.{figure, reply, reply-with, number-alone}
 use Rattle.quartree.specs.Steps.{AllSmall, SmallFigures, outcome-reply, outcome-reply-with}

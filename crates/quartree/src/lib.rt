@@ -10,8 +10,8 @@ ghost use Rattle.refusals.specs.Meanings.{Gives};
 ghost use Rattle.listings.specs.Operations.{check-answer, standardise-answer};
 ghost use Rattle.splits.specs.Operations.{splits-answer};
 ghost use Rattle.tree_tables.specs.Operations.{table-answer, gap-answer};
-ghost use Rattle.reconstruct.specs.Operations.{rebuild-answer, guided-answer};
-ghost use Rattle.reconstruct.specs.Meanings.{RebuildMeans, GuidedMeans};
+ghost use Rattle.rebuild_answers.specs.Operations.{rebuild-answer, guided-answer};
+ghost use Rattle.rebuild_answers.specs.Meanings.{RebuildMeans, GuidedMeans};
 ghost use Rattle.sheets.specs.Sheets.{leaves-of, offset-of, name-start, name};
 ghost use Rattle.sheets.specs.Operations.{check-sheet-answer};
 ghost use Rattle.sheet_tables.specs.Operations.{sheet-table-answer};
@@ -165,7 +165,7 @@ pub extern "C" fn quartree_rebuild(n: usize, cells: &[u32], out: &mut [u16]) -> 
     ensures meaning { λ r. ⌜ Gives reply (RebuildMeans n (now (cells .entry)) (length (now (out .entry)))) r
         (now (out .entry)) (now (out .exit)) ⌝ }
 {
-    reply_of(reconstruct::rebuild(n, cells, out))
+    reply_of(own_rebuild::rebuild(n, cells, out))
 }
 
 // The guided rebuild: 1, 2, 3, 4, 5, 12.
@@ -185,7 +185,7 @@ pub extern "C" fn quartree_rebuild_guided(
         (GuidedMeans n (now (cells .entry)) (now (merges .entry)) (length (now (out .entry)))) r
         (now (out .entry)) (now (out .exit)) ⌝ }
 {
-    reply_of(reconstruct::rebuild_guided(n, cells, merges, out))
+    reply_of(guided_rebuild::rebuild_guided(n, cells, merges, out))
 }
 
 // Whether a sheet keeps the rules, and its leaf count as the figure: 13, 1, 14, 15, 16.

@@ -9,7 +9,7 @@ use Rattle.refusals.specs.declared.Refusal.the-variants.{NoTree, Child, NamedBe
 use Rattle.refusals.specs.Refusals.{Answer, accepted, refused}
 use Rattle.listings.specs.Operations.{standardise-answer}
 use Rattle.merging.specs.MergeLists.{Pair}
-use Rattle.reconstruct.specs.Operations.{rebuild-answer, guided-answer}
+use Rattle.rebuild_answers.specs.Operations.{rebuild-answer, guided-answer}
 
 -- cells (i, j, v): cell (i, j) is v
 abbrev pub Cells : Type 0

@@ -13,7 +13,7 @@ use Rattle.refusals.specs.declared.Refusal.{Refusal}
 use Rattle.refusals.specs.declared.Outcome.the-variants.{Done, Refused}
 use Rattle.refusals.specs.Refusals.{Answer, accepted, refused, outcome, written}
 use Rattle.refusals.proofs.Answers.{unless-passed}
-use Rattle.reconstruct.proofs.Promises.{rebuilt-is-standard}
+use Rattle.rebuild_answers.proofs.Promises.{rebuilt-is-standard}
 use Rattle.sheets.specs.Sheets.{low-first, leaves-of, cells-of}
 use Rattle.sheets.specs.Operations.{sheet-refusal}
 use Rattle.sheets.proofs.ByteNumbers.{length-low}

@@ -15,8 +15,8 @@ use Rattle.listings.proofs.ListingRefusal.{room-passes}
 use Rattle.table_checks.proofs.TableRefusal.{table-passes}
 use Rattle.packed_tables.specs.Packed.{table-with}
 use Rattle.packed_tables.proofs.PackedIsTable.{sheet-is-table}
-use Rattle.reconstruct.specs.Operations.{rebuild-answer, packed-answer}
-use Rattle.reconstruct.proofs.GuidedRefusal.{none-refused}
+use Rattle.rebuild_answers.specs.Operations.{rebuild-answer, packed-answer}
+use Rattle.rebuild_answers.proofs.RebuildRefusals.{none-refused}
 use Rattle.sheets.specs.Sheets.{cell-bytes, leaves-of, offset-of, cells-of}
 use Rattle.sheets.specs.Operations.{sheet-ends-refusal, sheet-length-refusal, kept-sheet-refusal, sheet-refusal}
 use Rattle.sheets.proofs.SheetRefusal.{Accepted, accepted-sheet}

@@ -37,7 +37,7 @@ fn tree_of(sheet: &[u8], listing: &mut [u16]) -> Outcome
     let n = sheets::leaf_count_of(sheet);
     let offset = sheets::offset_of(sheet);
     let end = offset + n * (n - 1);
-    reconstruct::rebuild_packed(n, &sheet[offset..end], listing)
+    own_rebuild::rebuild_packed(n, &sheet[offset..end], listing)
 }
 
 // Writes the standard listing of the tree that has the sheet's table at the front of `listing`: 13, 1, 14, 3, 15, 16,

@@ -2,7 +2,7 @@
 -- that it calls.
 use mathlib.Core.Path.{ap, _∙_}
 use borrow.Author.Needs.{needs}
-use Rattle.reconstruct.proofs.Promises.{guided-gives}
+use Rattle.rebuild_answers.proofs.Promises.{guided-gives}
 use Rattle.quartree.specs.Replies.{reply}
 use Rattle.quartree.specs.Steps.{outcome-reply}
 use Rattle.quartree.proofs.Figures.{guided-small, replied}

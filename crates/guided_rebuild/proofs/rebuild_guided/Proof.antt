@@ -1,0 +1,114 @@
+-- `guided_rebuild::rebuild_guided` meets its contract: what is judged is the number of proposals and then the table, and
+-- `guided_checked` follows the proposals.
+use mathlib.Core.Path.{_≡_, ap, _∙_}
+use mathlib.Core.Option.{none}
+use Prim.Native.Nat.{_-_, _*_}
+use borrow.Author.Needs.{needs}
+use lib.ListN.{length}
+use Rattle.limits.specs.declared.Kind.the-variants.{Counts}
+use Rattle.refusals.specs.Refusals.{outcome-of, outcome}
+use Rattle.refusals.proofs.Answers.{go-stops, go-passes, call-passed, unless-told, unless-none}
+use Rattle.checks.specs.Sizes.{input-refusal}
+use Rattle.checks.proofs.Sizes.{input-due}
+use Rattle.table_checks.proofs.TableRefusal.{table-as-due, accepted-table}
+use Rattle.rebuild_answers.specs.Operations.{guided-refusal, guided-answer}
+use Rattle.rebuild_answers.proofs.RebuildRefusals.{guided-sizes}
+use Rattle.rebuild_answers.proofs.Promises.{guided-gives}
+use Rattle.guided_rebuild.proofs.rebuild_guided.Statement.{statement}
+use Rattle.guided_rebuild.proofs.rebuild_guided.Tie as tie
+
+proposed-leaves-requires : tie.Need-proposed-leaves-requires
+proposed-leaves-requires c κs = search needs
+
+judge-input-requires : tie.Need-judge-input-requires
+judge-input-requires c κs = search needs
+
+enum-told : tie.Need-enum-told
+enum-told c = search needs
+
+enum-told-2 : tie.Need-enum-told-2
+enum-told-2 c = search needs
+
+-- what was judged of the sizes
+sized :
+    (c : tie.After-judge-input)
+    → let a = c .before .before .before .before .before .args in
+    c .judge-input .result ≡ outcome-of (input-refusal Counts (a .n) (2 * (a .n - 1)) (length (a .merges .now)))
+sized c =
+    c .judge-input .ensures
+    ∙ ap outcome-of (input-due Counts _ _ _ _ (c .before .proposed-leaves .ensures))
+
+returns : tie.Need-returns
+unfolding guided-answer guided-refusal
+returns c =
+    let h = c .enum-told2 .given .1 in
+    guided-gives _ _ _ _ outcome (unless-told _ _ _ _ _ (go-stops _ (sized (c .before .before)) _ h) h)
+
+listing-numbers-requires : tie.Need-listing-numbers-requires
+listing-numbers-requires c κs = search needs
+
+judge-requires : tie.Need-judge-requires
+judge-requires c κs = search needs
+
+enum-told-3 : tie.Need-enum-told-3
+enum-told-3 c = search needs
+
+enum-told-4 : tie.Need-enum-told-4
+enum-told-4 c = search needs
+
+-- and of the table
+judged :
+    (c : tie.After-judge)
+    → let a = c .before .before .before .before .before .before .before .before .before .args in
+    c .judge .result
+    ≡ outcome-of (guided-refusal (a .n) (a .table .now) (a .merges .now) (length (a .out .now)))
+unfolding guided-refusal
+judged c =
+    let told = c .before .before in
+    go-passes _ (sized (told .before .before)) _ (told .enum-told .given .1)
+    (c .judge .ensures ∙ ap outcome-of (table-as-due _ _ _ _ _ (c .before .listing-numbers .ensures)))
+
+returns-2 : tie.Need-returns-2
+unfolding guided-answer
+returns-2 c =
+    guided-gives _ _ _ _ outcome (unless-told _ _ _ _ _ (judged (c .before .before)) (c .enum-told4 .given .1))
+
+-- nothing was refused
+passed :
+    (c : tie.After-enum-told3)
+    → let a = c .before .before .before .before .before .before .before .before .before .before .before .args in
+    guided-refusal (a .n) (a .table .now) (a .merges .now) (length (a .out .now)) ≡ none
+passed c = call-passed _ (judged (c .before .before)) (c .enum-told3 .given .1)
+
+guided-checked-requires : tie.Need-guided-checked-requires
+guided-checked-requires c κs =
+    let sizes = guided-sizes _ _ _ _ (passed (c .before)) in
+    let a = accepted-table _ _ _ _ (sizes .1) in
+    (a .count, a .is-table, a .room-enough, sizes .0)
+
+same-length : tie.Need-same-length
+same-length c = search needs
+
+returns-3 : tie.Need-returns-3
+unfolding guided-answer
+returns-3 c =
+    let put = c .before .before in
+    guided-gives _ _ _ _ outcome (unless-none _ _ _ _ _ (passed (put .before .before)) (put .guided-checked .ensures))
+
+pub rebuild-guided-spec : {M : Type 1} → statement M
+rebuild-guided-spec =
+    tie.close
+    (tie.spec
+    proposed-leaves-requires
+    judge-input-requires
+    enum-told
+    enum-told-2
+    returns
+    listing-numbers-requires
+    judge-requires
+    enum-told-3
+    enum-told-4
+    returns-2
+    guided-checked-requires
+    same-length
+    returns-3)

@@ -1,0 +1,2 @@
+mod AddedRows
+mod LeafMerges

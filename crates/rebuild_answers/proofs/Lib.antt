@@ -1,0 +1,3 @@
+pub mod RebuildRefusals
+pub mod Promises
+pub mod RoundTrip

@@ -1,0 +1,242 @@
+-- The arrays and the state that they hold: labels say which leaves a subtree has, the tests whether two are eligible,
+-- and a merge of the arrays is a step of the state; at the start they hold single leaves.
+use mathlib.Core.Path.{_≡_, refl, ap, sym, _∙_}
+use mathlib.Core.Logic.{_≢_, inl, inr}
+use mathlib.Core.Bool.{true, false, _||_}
+use mathlib.Core.List.{List}
+use Prim.Native.Nat.{ℕ, _+_, _-_, _*_, _≤_, _<_}
+use native.Mathlib.Omega.{arith}
+use native.Mathlib.Decide.{ℕ-discrete}
+use borrow.Author.Tests.{ne-eqb}
+use lib.ListN.{length, getD, replicate, getD-replicate, length-set}
+use lib.Seq.{getD-set-same, getD-set-other}
+use Rattle.base.specs.Lists.{filled}
+use Rattle.base.proofs.Bools.{bool?, never, is-false, or-left, or-right, or-none, or-neither, eqb-same}
+use Rattle.base.proofs.Counts.{count-le}
+use Rattle.base.proofs.Filling.{length-filled, getD-filled}
+use Rattle.limits.specs.Limits.{most-leaves}
+use Rattle.pair_counts.specs.Pairs.{P}
+use Rattle.pair_counts.proofs.Pairs.{P-mono}
+use Rattle.trees.specs.Trees.{Tree, leaves, size, least, join}
+use Rattle.trees.specs.Tables.{cell}
+use Rattle.trees.proofs.Trees.{least-in, least-join, size-join}
+use Rattle.merging.specs.Merging.{State, start, step}
+use Rattle.merging.proofs.States.{WellFormed, step-in, step-out, step-m-left, step-m-right, step-m-out, apart}
+use Rattle.merging.proofs.States.{two-fit}
+use Rattle.merging.specs.inner.Runs.{Eligible, Runs}
+use Rattle.merging.proofs.Values.{m-pairs}
+use Rattle.state_arrays.specs.inner.Fits.{SubtreesFit, SmallSums, Given, SizesFit, TwoLabels}
+use Rattle.state_arrays.specs.inner.Merged.{relabelled, label-at, m-at, MergeReady}
+use Rattle.state_arrays.specs.inner.Merged as Merged
+use Rattle.state_arrays.specs.inner.StateArrays.{HoldsState}
+use Rattle.state_arrays.proofs.Fits.{both-fit}
+
+-- The labels after a merge, and what m grows by.
+relabel-other : (l a b : ℕ) → l ≢ b → relabelled l a b ≡ l
+unfolding relabelled
+relabel-other l a b d = rw (ne-eqb l b d)
+
+relabel-second : (l a b : ℕ) → l ≡ b → relabelled l a b ≡ a
+unfolding relabelled
+relabel-second l a b e = rw (e, eqb-same b)
+
+grow-first : (l a b pa pb : ℕ) → l ≡ a → Merged.growth l a b pa pb ≡ pb
+unfolding Merged.growth
+grow-first l a b pa pb e = rw (e, eqb-same a)
+
+grow-second : (l a b pa pb : ℕ) → l ≢ a → l ≡ b → Merged.growth l a b pa pb ≡ pa
+unfolding Merged.growth
+grow-second l a b pa pb d e = rw (ne-eqb l a d, e, eqb-same b)
+
+grow-none : (l a b pa pb : ℕ) → l ≢ a → l ≢ b → Merged.growth l a b pa pb ≡ 0
+unfolding Merged.growth
+grow-none l a b pa pb d e = rw (ne-eqb l a d, ne-eqb l b e)
+
+module _ {n : ℕ} {S : State} (w : WellFormed n S) {label m sizes : List ℕ} (h : HoldsState n label m sizes S) where
+  -- a label i: the leaves labelled i are those of its subtree
+  module _ (i : ℕ) (li : i < n) (own : getD label i 0 ≡ i) where
+    pub is-least : least (S .tree i) ≡ i
+    is-least = sym (h .labels i li) ∙ own
+
+    pub in-label : (x : ℕ) → x < n → getD label x 0 ≡ i → leaves (S .tree i) x ≡ true
+    in-label x lx p =
+        let i-in : leaves (S .tree x) i ≡ true = rw (sym (h .labels x lx) ∙ p) at (least-in (S .tree x)) in
+        rw (w .closed x i i-in) (w .own x)
+
+    pub label-in : (x : ℕ) → x < n → leaves (S .tree i) x ≡ true → getD label x 0 ≡ i
+    label-in x lx p = h .labels x lx ∙ ap least (w .closed i x p) ∙ is-least
+
+    pub label-out : (x : ℕ) → x < n → leaves (S .tree i) x ≡ false → getD label x 0 ≢ i
+    label-out x lx p e = never (in-label x lx e) p
+
+    pub two-apart : (k : ℕ) → k < n → getD label k 0 ≡ k → i ≢ k → leaves (S .tree i) k ≡ false
+    two-apart k lk ok d = is-false (leaves (S .tree i) k) (λ p. d (sym (label-in k lk p) ∙ ok))
+
+  -- the test of two labels says whether their subtrees are eligible
+  module _ (t : List ℕ) (i k : ℕ) (li : i < n) (lk : k < n) (oi : getD label i 0 ≡ i) (ok : getD label k 0 ≡ k) where
+    regroup : (e u v : ℕ) → (e + u) + v ≡ 1 * (e + (u + v))
+    regroup e u v = omega arith
+
+    pub fits-eligible : i ≢ k → SubtreesFit n t label m sizes i k → Eligible n 1 (cell n t) S i k
+    fits-eligible d q = record {
+      left = li;
+      right = lk;
+      apart = two-apart i li oi k lk ok d;
+      cells = λ x y px py.
+          let lx = w .below i x li px in
+          let ly = w .below k y lk py in
+          let cell-is = q x y lx ly (label-in i li oi x lx px) (label-in k lk ok y ly py) in
+          rw (h .sized i li oi, h .sized k lk ok, h .sums x lx, h .sums y ly, regroup) at cell-is;
+    }
+
+    pub eligible-fits : Eligible n 1 (cell n t) S i k → SubtreesFit n t label m sizes i k
+    eligible-fits e x y lx ly px py =
+        rw (h .sized i li oi, h .sized k lk ok, h .sums x lx, h .sums y ly, regroup)
+        (e .cells x y (in-label i li oi x lx px) (in-label k lk ok y ly py))
+
+  -- what a test has to know
+  module _ {c : ℕ → ℕ → ℕ} (r : Runs n 1 c start S) where
+    small : n ≤ most-leaves → SmallSums n m
+    small few k l =
+        let size-le : size (S .tree k) ≤ n = rw (w .sized k l) (count-le n (leaves (S .tree k))) in
+        omega (arith, h .sums k l, m-pairs r k, P-mono (size (S .tree k) - 1) most-leaves (omega arith))
+
+    pub fair : {t p : List ℕ} → Given n t p → SizesFit n t label m sizes p
+    fair g = record {
+      given = g;
+      small = small (g .leaf-count .1);
+      room = λ a b la lb d oa ob.
+          rw (h .sized a la oa, h .sized b lb ob) (two-fit w a b la lb (two-apart a la oa b lb ob d));
+    }
+
+  -- what a merge has to know
+  pub two-merges : {t p : List ℕ} {a b : ℕ} → TwoLabels n t label m sizes p a b → MergeReady n label m sizes p a b
+  two-merges q = record {
+    few = q .fair .given .leaf-count .1;
+    label-long = h .label-long;
+    m-long = h .m-long;
+    small = q .fair .small;
+    pair-counts = q .fair .given .pair-counts;
+    first = q .first;
+    second = q .second;
+    room = both-fit q;
+  }
+
+  -- A merge of the subtrees labelled i and k, i < k.
+  module _ {c : ℕ → ℕ → ℕ} (i k : ℕ) (ik : i < k) (oi : getD label i 0 ≡ i) (ok : getD label k 0 ≡ k)
+      (e : Eligible n 1 c S i k) (few : n ≤ most-leaves) {label′ m′ sizes′ : List ℕ}
+      (d : Merged.Merged n label m sizes label′ m′ sizes′ i k) where
+    abbrev A : Tree
+    A = S .tree i
+
+    abbrev B : Tree
+    B = S .tree k
+
+    pub least-both : least (join A B) ≡ i
+    least-both =
+        let oi′ = is-least i (e .left) oi in
+        least-join A B (rw (oi′, is-least k (e .right) ok) ik) ∙ oi′
+
+    label-is : (x : ℕ) → x < n → getD label′ x 0 ≡ relabelled (getD label x 0) i k
+    label-is x lx = rw (d .gathered .labels, getD-filled (label-at label i k) label n x 0 lx) (unfold label-at in refl)
+
+    labels′ : (x : ℕ) → x < n → getD label′ x 0 ≡ least ((step S i k) .tree x)
+    labels′ x lx = label-is x lx ∙ elim (bool? (leaves A x)) [
+      | inl p ↦
+          let is-i = label-in i (e .left) oi x lx p in
+          rw (step-in S i k x (or-left _ _ p), least-both) (relabel-other _ i k (omega arith) ∙ is-i)
+      | inr p ↦ elim (bool? (leaves B x)) [
+        | inl q ↦
+            rw (step-in S i k x (or-right (leaves A x) _ q), least-both)
+            (relabel-second _ i k (label-in k (e .right) ok x lx q))
+        | inr q ↦
+            rw (step-out S i k x (or-none _ _ p q))
+            (relabel-other _ i k (label-out k (e .right) ok x lx q) ∙ h .labels x lx)
+      ]
+    ]
+
+    abbrev pa : ℕ
+    pa = P (getD sizes i 0)
+
+    abbrev pb : ℕ
+    pb = P (getD sizes k 0)
+
+    sum-is : (x : ℕ) → x < n → getD m′ x 0 ≡ getD m x 0 + Merged.growth (getD label x 0) i k pa pb
+    sum-is x lx = rw (d .gathered .sums, getD-filled (m-at label m i k pa pb) m n x 0 lx) (unfold m-at in refl)
+
+    sums′ : (x : ℕ) → x < n → getD m′ x 0 ≡ (step S i k) .m x
+    sums′ x lx = sum-is x lx ∙ rw (h .sums x lx) (elim (bool? (leaves A x)) [
+      | inl p ↦
+          rw (grow-first (getD label x 0) i k pa pb (label-in i (e .left) oi x lx p), h .sized k (e .right) ok)
+          (sym (step-m-left S i k x p (apart w i k (e .apart) x p)))
+      | inr p ↦ elim (bool? (leaves B x)) [
+        | inl q ↦
+            let not-i = label-out i (e .left) oi x lx p in
+            let is-k = label-in k (e .right) ok x lx q in
+            rw (grow-second (getD label x 0) i k pa pb not-i is-k, h .sized i (e .left) oi)
+            (sym (step-m-right S i k x p q))
+        | inr q ↦
+            let not-i = label-out i (e .left) oi x lx p in
+            let not-k = label-out k (e .right) ok x lx q in
+            rw (grow-none (getD label x 0) i k pa pb not-i not-k, step-m-out S i k x (or-none _ _ p q)) (omega arith)
+      ]
+    ])
+
+    -- a label other than i that stands after the merge stood before, is not k, and its subtree is as it was
+    pub still :
+        (x : ℕ) → x < n → getD label′ x 0 ≡ x → x ≢ i
+        → (getD label x 0 ≡ x) × (x ≢ k) × ((step S i k) .tree x ≡ S .tree x)
+    still x lx o z = elim (bool? (leaves A x || leaves B x)) [
+      | inl p ↦ absurd (z (sym o ∙ labels′ x lx ∙ rw (step-in S i k x p) least-both))
+      | inr p ↦
+          let kept = step-out S i k x p in
+          let not-k : x ≢ k = λ q. never (rw q (w .own k)) (or-neither (leaves A x) (leaves B x) p .1) in
+          (h .labels x lx ∙ rw (← kept) (sym (labels′ x lx) ∙ o), not-k, kept)
+    ]
+
+    sized′ : (x : ℕ) → x < n → getD label′ x 0 ≡ x → getD sizes′ x 0 ≡ size ((step S i k) .tree x)
+    sized′ x lx o = rw (d .summed) (elim (ℕ-discrete x i) [
+      | yes z ↦
+          rw (
+            z,
+            getD-set-same sizes i (getD sizes i 0 + getD sizes k 0) 0 (omega (arith, h .sizes-long, e .left)),
+            step-in S i k i (or-left _ _ (w .own i)),
+            size-join,
+            h .sized i (e .left) oi,
+            h .sized k (e .right) ok,
+          )
+      | no z ↦
+          let u = still x lx o z in
+          rw (getD-set-other sizes i x (getD sizes i 0 + getD sizes k 0) 0 z, u .2) (h .sized x lx (u .0))
+    ])
+
+    pub holds-step : HoldsState n label′ m′ sizes′ (step S i k)
+    holds-step = record {
+      label-long = rw (d .gathered .labels) (length-filled _ label n (omega (arith, h .label-long)) ∙ h .label-long);
+      m-long = rw (d .gathered .sums) (length-filled _ m n (omega (arith, h .m-long)) ∙ h .m-long);
+      sizes-long = rw (d .summed) (length-set sizes i (getD sizes i 0 + getD sizes k 0) ∙ h .sizes-long);
+      labels = labels′;
+      sums = sums′;
+      sized = sized′;
+    }
+
+-- Single leaves: the arrays as they are made, with each leaf's own label.
+module _ (n : ℕ) (few : n ≤ most-leaves) where
+  pub filled-own : {l : List ℕ} → l ≡ filled n (λ k. k) (replicate most-leaves 0) → (k : ℕ) → k < n → getD l k 0 ≡ k
+  filled-own e k l = rw e (getD-filled (λ k. k) (replicate most-leaves 0) n k 0 l)
+
+  pub filled-long : {l : List ℕ} → l ≡ filled n (λ k. k) (replicate most-leaves 0) → length l ≡ most-leaves
+  filled-long e = rw e (length-filled (λ k. k) (replicate most-leaves 0) n few)
+
+  pub holds-start :
+      {label : List ℕ} → label ≡ filled n (λ k. k) (replicate most-leaves 0)
+      → HoldsState n label (replicate most-leaves 0) (replicate most-leaves 1) start
+  unfolding start least size
+  holds-start e = record {
+    label-long = filled-long e;
+    m-long = refl;
+    sizes-long = refl;
+    labels = filled-own e;
+    sums = λ k l. getD-replicate most-leaves k 0 0 (omega arith);
+    sized = λ k l o. getD-replicate most-leaves k 1 0 (omega arith);
+  }

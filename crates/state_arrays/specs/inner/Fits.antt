@@ -1,0 +1,48 @@
+-- What the tests of a rebuild say of its arrays. Each leaf k has a label, `label k`, the least leaf of its subtree, and
+-- its number m, `m k`; a label i has the number of leaves of its subtree, `sizes i`. p holds the pair counts.
+use mathlib.Core.Path.{_≡_}
+use mathlib.Core.Logic.{_≢_}
+use mathlib.Core.List.{List}
+use Prim.Native.Nat.{ℕ, _+_, _-_, _≤_, _<_}
+use lib.ListN.{getD}
+use Rattle.base.specs.Lists.{tab}
+use Rattle.limits.specs.Limits.{most-leaves, IsLeafCount}
+use Rattle.pair_counts.specs.Pairs.{P}
+use Rattle.trees.specs.Tables.{cell, IsTable}
+
+-- every cell (x, y), x labelled a and y labelled b, is e + m(x) + m(y)
+abbrev pub BlockFits : ℕ → List ℕ → List ℕ → List ℕ → ℕ → ℕ → ℕ → Type 0
+BlockFits n t label m a b e =
+    (x y : ℕ) → x < n → y < n → getD label x 0 ≡ a → getD label y 0 ≡ b
+    → cell n t x y ≡ (e + getD m x 0) + getD m y 0
+
+-- the subtrees labelled a and b are eligible, as far as their cells go
+abbrev pub SubtreesFit : ℕ → List ℕ → List ℕ → List ℕ → List ℕ → ℕ → ℕ → Type 0
+SubtreesFit n t label m sizes a b = BlockFits n t label m a b (P (n - (getD sizes a 0 + getD sizes b 0)))
+
+-- no m is above the number of pairs of all leaves
+abbrev pub SmallSums : ℕ → List ℕ → Type 0
+SmallSums n m = (k : ℕ) → k < n → getD m k 0 ≤ P most-leaves
+
+-- what a rebuild is given: a table that passed the checks, and the pair counts
+pub record Given (n : ℕ) (t p : List ℕ) : Type 0 where
+  pub leaf-count : IsLeafCount n
+  pub is-table : IsTable n t
+  pub pair-counts : p ≡ tab (most-leaves + 1) P
+
+-- what a test has to know of the arrays: two subtrees have no more than n leaves
+pub record SizesFit (n : ℕ) (t label m sizes p : List ℕ) : Type 0 where
+  pub given : Given n t p
+  pub small : SmallSums n m
+  pub room :
+      (a b : ℕ) → a < n → b < n → a ≢ b → getD label a 0 ≡ a → getD label b 0 ≡ b
+      → getD sizes a 0 + getD sizes b 0 ≤ n
+
+-- two labels, whose subtrees are to be tested
+pub record TwoLabels (n : ℕ) (t label m sizes p : List ℕ) (a b : ℕ) : Type 0 where
+  pub fair : SizesFit n t label m sizes p
+  pub first : a < n
+  pub second : b < n
+  pub differ : a ≢ b
+  pub own-first : getD label a 0 ≡ a
+  pub own-second : getD label b 0 ≡ b
