@@ -6,7 +6,7 @@ use lib.ListN.{length, drop}
 use Rattle.trees.specs.Listings.{tree-of, standard}
 use Rattle.trees.specs.Splits.{split-bytes}
 use Rattle.trees.proofs.Splits.{split-bytes-many}
-use Rattle.splits.specs.Splits.{with-sets}
+use Rattle.splits.specs.inner.NodeSets.{with-sets}
 use Rattle.splits.proofs.SplitsWritten.{standard-sets}
 
 pub splits-end :

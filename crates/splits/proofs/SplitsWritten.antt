@@ -12,7 +12,7 @@ use Rattle.limits.specs.Limits.{set-bytes}
 use Rattle.trees.specs.Trees.{Tree, LeafSet, leaves}
 use Rattle.trees.specs.Listings.{subtree-at, standard}
 use Rattle.trees.specs.Splits.{splits, byte-of, bytes-of, split-bytes}
-use Rattle.splits.specs.Splits.{set-of-subtree, node-sets}
+use Rattle.splits.specs.inner.NodeSets.{set-of-subtree, node-sets}
 
 -- the nodes of the standard listing but the last: the splits of the tree
 pub standard-sets : (n : ℕ) (T : Tree) → node-sets n (standard n T) (n - 3) ≡ split-bytes n T

@@ -11,7 +11,7 @@ ghost use lib.ListN.{length, take, drop};
 ghost use Rattle.limits.specs.Limits.{IsLeafCount, most-nodes, set-bytes};
 ghost use Rattle.trees.specs.Trees.{leaf};
 ghost use Rattle.trees.specs.Listings.{KeepsRules};
-ghost use Rattle.splits.specs.Splits.{HoldsSet, with-sets};
+ghost use Rattle.splits.specs.inner.NodeSets.{HoldsSet, with-sets};
 
 // The set of each leaf below n.
 fn leaf_sets(n: usize) -> [[u8; SET_BYTES]; MOST_NODES]

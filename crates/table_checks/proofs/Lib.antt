@@ -1,4 +1,4 @@
-pub mod Searches
-pub mod Verdicts
+mod Searches
+mod Verdicts
 pub mod TableRefusal
 pub mod Causes

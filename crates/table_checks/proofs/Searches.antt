@@ -15,7 +15,7 @@ use Rattle.base.specs.Lists.{tab, in-rows, find}
 use Rattle.base.proofs.Lists.{row-of, column-of, place}
 use Rattle.base.proofs.Searches.{find-here, find-on, find-end}
 use Rattle.trees.specs.Tables.{cell, first-filled, first-unequal}
-use Rattle.table_checks.specs.Checks.{unequal-from}
+use Rattle.table_checks.specs.inner.Searches.{unequal-from}
 
 -- The diagonal: the first leaf from i on whose cell is not 0.
 unfoldable pub filled-from : ℕ → List ℕ → ℕ → Option ℕ

@@ -7,7 +7,7 @@ use Rattle.refusals.specs.declared.Refusal.the-variants.{Diagonal, Halves}
 use Rattle.refusals.specs.declared.Outcome.the-variants.{Done, Refused}
 use Rattle.refusals.specs.Refusals.{outcome-of}
 use Rattle.trees.specs.Tables.{first-filled, first-unequal, cells-refusal}
-use Rattle.table_checks.specs.Checks.{halves-refusal}
+use Rattle.table_checks.specs.inner.Searches.{halves-refusal}
 
 pub unequal-told :
     (o : Option (ℕ × ℕ)) (i j : ℕ) → o ≡ some (i, j)

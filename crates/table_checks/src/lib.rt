@@ -10,7 +10,7 @@ ghost use lib.Dec.{ltb};
 ghost use Rattle.refusals.specs.Refusals.{outcome-of};
 ghost use Rattle.trees.specs.Tables.{cell, first-filled, first-unequal, cells-refusal};
 ghost use Rattle.table_checks.specs.Operations.{table-refusal};
-ghost use Rattle.table_checks.specs.Checks.{Square, found-below, unequal-from, halves-refusal};
+ghost use Rattle.table_checks.specs.inner.Searches.{Square, found-below, unequal-from, halves-refusal};
 
 // Cell (i, j) of a table.
 fn cell_at(n: usize, cells: &[u32], i: usize, j: usize) -> u32

@@ -5,7 +5,7 @@ use native.Mathlib.Omega.{arith}
 use borrow.Author.Needs.{needs}
 use borrow.Author.Tests.{lt-ltb, le-ltb}
 use Rattle.trees.specs.Tables.{first-filled}
-use Rattle.table_checks.specs.Checks.{found-below}
+use Rattle.table_checks.specs.inner.Searches.{found-below}
 use Rattle.table_checks.proofs.Searches.{filled-from, filled-start, filled-here, filled-on, filled-end}
 use Rattle.table_checks.proofs.filled.Statement.{statement}
 use Rattle.table_checks.proofs.filled.Tie as tie

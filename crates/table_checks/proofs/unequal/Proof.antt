@@ -6,7 +6,7 @@ use native.Mathlib.Omega.{arith}
 use borrow.Author.Needs.{needs}
 use borrow.Author.Tests.{lt-ltb, le-ltb}
 use Rattle.trees.specs.Tables.{first-unequal}
-use Rattle.table_checks.specs.Checks.{unequal-from}
+use Rattle.table_checks.specs.inner.Searches.{unequal-from}
 use Rattle.table_checks.proofs.Searches.{unequal-start, unequal-end}
 use Rattle.table_checks.proofs.Verdicts.{unequal-told, equal-told}
 use Rattle.table_checks.proofs.unequal.Statement.{statement}

@@ -4,7 +4,7 @@ use Prim.Native.Nat.{_+_, _*_, _-_, _≤_, _<_}
 use native.Mathlib.Omega.{arith}
 use borrow.Author.Needs.{needs}
 use borrow.Author.Tests.{lt-ltb, le-ltb}
-use Rattle.table_checks.specs.Checks.{unequal-from}
+use Rattle.table_checks.specs.inner.Searches.{unequal-from}
 use Rattle.table_checks.proofs.Searches.{unequal-here, unequal-on, unequal-after}
 use Rattle.table_checks.proofs.unequal_in_row.Statement.{statement}
 use Rattle.table_checks.proofs.unequal_in_row.Tie as tie

@@ -2,7 +2,7 @@
 use mathlib.Core.Path.{_∙_}
 use borrow.Author.Needs.{needs}
 use borrow.Author.Tests.{lt-ltb, le-ltb}
-use Rattle.table_checks.specs.Checks.{found-below}
+use Rattle.table_checks.specs.inner.Searches.{found-below}
 use Rattle.table_checks.proofs.Verdicts.{filled-told, halves-decide}
 use Rattle.table_checks.proofs.wrong.Statement.{statement}
 use Rattle.table_checks.proofs.wrong.Tie as tie
