@@ -19,7 +19,7 @@ static size_t n;
 static uint16_t listing[2 * MOST], standard[2 * MOST], merges[2 * MOST], joined[2 * MOST], question[4];
 static uint32_t table[MOST * MOST], cells[MOST * MOST];
 static int64_t gaps[MOST * MOST];
-static uint8_t sets[16 * MOST], bytes[4 * MOST], sheet[QUARTREE_SHEET_MOST_BYTES];
+static uint8_t sets[QUARTREE_SET_BYTES * MOST], bytes[4 * MOST], sheet[QUARTREE_SHEET_MOST_BYTES];
 static struct quartree_record records[QUARTREE_POLL_RECORDS(32)];
 static size_t sheet_len;
 static volatile uint64_t sink;
@@ -196,13 +196,13 @@ static void standardise_plain(void)
     plain_standardise(n, listing, standard);
 }
 static void standardise_floor(void) { floor_of(listing, 4 * (n - 2), standard, 4 * (n - 2)); }
-static void splits(void) { sink += quartree_splits(n, listing, 2 * (n - 2), sets, 16 * (n - 3)); }
+static void splits(void) { sink += quartree_splits(n, listing, 2 * (n - 2), sets, QUARTREE_SPLIT_BYTES(n)); }
 static void splits_plain(void)
 {
     check_plain();
     plain_splits(n, listing, sets);
 }
-static void splits_floor(void) { floor_of(listing, 4 * (n - 2), sets, 16 * (n - 3)); }
+static void splits_floor(void) { floor_of(listing, 4 * (n - 2), sets, QUARTREE_SPLIT_BYTES(n)); }
 static void pairing(void) { sink += quartree_pairing(n, listing, 2 * (n - 2), question, 4); }
 static void pairing_plain(void)
 {

@@ -41,6 +41,7 @@ HOLDS(sheet_bytes, QUARTREE_SHEET_MOST_BYTES == 21512 && 128 * 41 + 128 * 127 + 
 HOLDS(listing_numbers, QUARTREE_LISTING_NUMBERS(3) == 2 && QUARTREE_LISTING_NUMBERS(128) == 252);
 HOLDS(listing_bytes, QUARTREE_LISTING_BYTES(3) == 4 && QUARTREE_LISTING_BYTES(128) == 504);
 HOLDS(table_cells, QUARTREE_TABLE_CELLS(3) == 9 && QUARTREE_TABLE_CELLS(128) == 16384);
+HOLDS(set_bytes, QUARTREE_SET_BYTES == 16);
 HOLDS(split_bytes, QUARTREE_SPLIT_BYTES(3) == 0 && QUARTREE_SPLIT_BYTES(128) == 2000);
 HOLDS(merges, QUARTREE_MERGES(3) == 2 && QUARTREE_MERGES(128) == 127);
 HOLDS(merge_numbers, QUARTREE_MERGE_NUMBERS(3) == 4 && QUARTREE_MERGE_NUMBERS(128) == 254);
@@ -117,7 +118,7 @@ static void fill_tree(size_t leaves)
         lent.listing[2 * row] = standard[2 * row + 1] = (uint16_t)rest;
         lent.listing[2 * row + 1] = standard[2 * row] = (uint16_t)next;
         for (size_t k = next; row + 1 < leaves - 2 && k < leaves; k++)
-            splits[16 * row + k / 8] |= (uint8_t)(1u << k % 8);
+            splits[QUARTREE_SET_BYTES * row + k / 8] |= (uint8_t)(1u << k % 8);
     }
     for (size_t place = 0; place < QUARTREE_LISTING_NUMBERS(leaves); place++)
         put(listing_bytes_due + 2 * place, 2, standard[place]);

@@ -15,10 +15,10 @@
 #include <stddef.h>
 #include <stdint.h>
 
-#define QUARTREE_VERSION "0.2.0"
+#define QUARTREE_VERSION "0.2.1"
 #define QUARTREE_VERSION_MAJOR 0
 #define QUARTREE_VERSION_MINOR 2
-#define QUARTREE_VERSION_PATCH 0
+#define QUARTREE_VERSION_PATCH 1
 
 /* ---- Words ----------------------------------------------------------------------------------------------------------
 
@@ -33,8 +33,8 @@
    Every tree has one standard listing, and two trees on the same leaves are the same exactly when their standard
    listings are equal. Other listings say nothing by their differences: for n = 4, 2 3 4 1 and 2 3 1 4 are one tree.
 
-   Split. The set of leaves under an inner node other than the last. It is sixteen bytes, one bit a leaf: leaf k is
-   bit k mod 8 of byte k div 8, bit 0 the lowest. The bits from n on are 0.
+   Split. The set of leaves under an inner node other than the last. It is sixteen bytes (QUARTREE_SET_BYTES), one bit
+   a leaf: leaf k is bit k mod 8 of byte k div 8, bit 0 the lowest. The bits from n on are 0.
 
    Quartet. Four different leaves. The tree pairs i,j against p,q when some edge separates i and j from p and q. Four
    leaves in an order have pairing 0 (first with second), 1 (first with third) or 2 (first with fourth).
@@ -68,13 +68,14 @@
 #define QUARTREE_MOST_LEAVES 128
 #define QUARTREE_POLL_LEAST_LEAVES 4
 #define QUARTREE_POLL_MOST_LEAVES 32
-#define QUARTREE_SHEET_MOST_BYTES 21512
+#define QUARTREE_SHEET_MOST_BYTES (41 * QUARTREE_MOST_LEAVES + QUARTREE_MOST_LEAVES * (QUARTREE_MOST_LEAVES - 1) + 8)
+#define QUARTREE_SET_BYTES (8 * ((QUARTREE_MOST_LEAVES + 63) / 64)) /* of a leaf set: a bit a leaf, in whole words */
 #define QUARTREE_STACK_BYTES 32768 /* of stack, enough for every call */
 
 #define QUARTREE_LISTING_NUMBERS(n) (2 * ((size_t)(n) - 2)) /* uint16_t of a listing: two a row */
 #define QUARTREE_LISTING_BYTES(n) (4 * ((size_t)(n) - 2))   /* bytes of a listing, for quartree_rebuild_sheet */
 #define QUARTREE_TABLE_CELLS(n) ((size_t)(n) * (size_t)(n)) /* cells of a table, uint32_t or int64_t */
-#define QUARTREE_SPLIT_BYTES(n) (16 * ((size_t)(n) - 3))    /* bytes of a tree's splits: 16 a split */
+#define QUARTREE_SPLIT_BYTES(n) (QUARTREE_SET_BYTES * ((size_t)(n) - 3)) /* bytes of a tree's splits: a set each */
 #define QUARTREE_MERGES(n) ((size_t)(n) - 1)                /* merges that join n leaves */
 #define QUARTREE_MERGE_NUMBERS(n) (2 * ((size_t)(n) - 1))   /* uint16_t of a list of merges: two a merge */
 #define QUARTREE_POLL_RECORDS(n) /* records of a poll */ \
@@ -206,8 +207,8 @@ uint64_t quartree_standardise(size_t n, const uint16_t *listing, size_t len, uin
 
 /* Lists the splits of a listing's tree.
    Refused, in this order: 1, 2, 3, 7, 8.
-   Accepted: the first QUARTREE_SPLIT_BYTES(n) bytes of out are the tree's n-3 splits, sixteen bytes each, in the order
-   in which the standard listing has their nodes. */
+   Accepted: the first QUARTREE_SPLIT_BYTES(n) bytes of out are the tree's n-3 splits, in the order in which the
+   standard listing has their nodes. */
 uint64_t quartree_splits(size_t n, const uint16_t *listing, size_t len, uint8_t *out, size_t room);
 
 /* Says how a listing's tree pairs four leaves. The length of the question, question_len, has to be 4.
