@@ -4,6 +4,7 @@ use limits::Kind;
 use limits::MOST_LEAVES;
 use limits::MOST_POLLED;
 use limits::SET_BYTES;
+use numbers::index_of_u8;
 use refusals::Outcome;
 use refusals::Refusal;
 ghost use mathlib.Core.Path.{_≡_};
@@ -73,14 +74,32 @@ pub fn judge_sizes(
     input
 }
 
-// How many numbers a listing of n leaves has; 0 where no tree has n leaves.
-pub fn listing_numbers(n: usize) -> usize
-    ensures { λ r. ⌜ (IsLeafCount n → r ≡ 2 * (n - 2)) ⌝ }
+// So many numbers for each leaf but some, where a tree may have n leaves; else 0.
+pub fn numbers_due(n: usize, each: u8, but: u8) -> usize
+    ensures { λ r. ⌜ (IsLeafCount n → r ≡ each * (n - but)) ⌝ }
 {
+    let less = index_of_u8(but);
     if !leaf_count(n) {
         return 0;
     }
-    2 * (n - 2)
+    if n < less {
+        return 0;
+    }
+    index_of_u8(each) * (n - less)
+}
+
+// How many numbers a listing of n leaves has.
+pub fn listing_numbers(n: usize) -> usize
+    ensures { λ r. ⌜ (IsLeafCount n → r ≡ 2 * (n - 2)) ⌝ }
+{
+    numbers_due(n, 2, 2)
+}
+
+// How many bytes the splits of a tree of n leaves take, a leaf set each.
+pub fn split_bytes(n: usize) -> usize
+    ensures { λ r. ⌜ (IsLeafCount n → r ≡ set-bytes * (n - 3)) ⌝ }
+{
+    numbers_due(n, SET_BYTES as u8, 3)
 }
 
 // How many cells a table of n leaves has; 0 where no tree has n leaves.
@@ -93,12 +112,16 @@ pub fn table_cells(n: usize) -> usize
     n * n
 }
 
-// How many bytes the splits of a tree of n leaves take, a leaf set each; 0 where no tree has n leaves.
-pub fn split_bytes(n: usize) -> usize
-    ensures { λ r. ⌜ (IsLeafCount n → r ≡ set-bytes * (n - 3)) ⌝ }
+// The sizes of a call that is lent a listing: 1, 2, 3.
+pub fn judge_listing_sizes(n: usize, lent: usize, result: usize, room: usize) -> Outcome
+    ensures { λ r. ⌜ r ≡ outcome-of (sizes-refusal Counts n (2 * (n - 2)) lent result room) ⌝ }
 {
-    if !leaf_count(n) {
-        return 0;
-    }
-    SET_BYTES * (n - 3)
+    judge_sizes(Kind::Counts, n, listing_numbers(n), lent, result, room)
+}
+
+// The sizes of a call that is lent a table: 1, 2, 3.
+pub fn judge_table_sizes(n: usize, lent: usize, result: usize, room: usize) -> Outcome
+    ensures { λ r. ⌜ r ≡ outcome-of (sizes-refusal Counts n (n * n) lent result room) ⌝ }
+{
+    judge_sizes(Kind::Counts, n, table_cells(n), lent, result, room)
 }

@@ -15,12 +15,7 @@ use Rattle.checks.proofs.Sizes.{sizes-due, sizes-right, sizes-pass}
 use Rattle.listings.specs.Operations.{listing-refusal}
 
 module _ (n : ℕ) (l : List ℕ) (due room : ℕ) where
-  -- what the code works out as due, for the listing and for the result
-  pub sizes-as-due :
-      (d : ℕ) → (IsLeafCount n → d ≡ 2 * (n - 2))
-      → sizes-refusal Counts n d (length l) due room ≡ sizes-refusal Counts n (2 * (n - 2)) (length l) due room
-  sizes-as-due d h = sizes-due Counts n d (length l) due room _ due (λ c. (h c, refl))
-
+  -- what the code works out as due counts only where the leaf count is right
   pub listing-as-due :
       (d : ℕ) → (IsLeafCount n → d ≡ due) → listing-refusal n l d room ≡ listing-refusal n l due room
   unfolding listing-refusal

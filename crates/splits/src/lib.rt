@@ -14,7 +14,7 @@ pub fn splits(n: usize, listing: &[u16], out: &mut [u8]) -> Outcome
     ensures buffer { λ r. ⌜ now (out .exit)
         ≡ written (splits-answer n (now (listing .entry)) (length (now (out .entry)))) (now (out .entry)) ⌝ }
 {
-    let judged = listings::judge(n, listing, checks::split_bytes(n), out.len());
+    let judged = listings::judge_for_splits(n, listing, out.len());
     let Outcome::Done = judged else {
         return judged;
     };

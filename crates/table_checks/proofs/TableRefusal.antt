@@ -15,12 +15,7 @@ use Rattle.checks.proofs.Sizes.{sizes-due, sizes-right, sizes-pass}
 use Rattle.table_checks.specs.Operations.{table-refusal}
 
 module _ (n : ℕ) (t : List ℕ) (due room : ℕ) where
-  -- what the code works out as due, for the table and for the result
-  pub sizes-as-due :
-      (d : ℕ) → (IsLeafCount n → d ≡ n * n)
-      → sizes-refusal Counts n d (length t) due room ≡ sizes-refusal Counts n (n * n) (length t) due room
-  sizes-as-due d h = sizes-due Counts n d (length t) due room _ due (λ c. (h c, refl))
-
+  -- what the code works out as due counts only where the leaf count is right
   pub table-as-due : (d : ℕ) → (IsLeafCount n → d ≡ due) → table-refusal n t d room ≡ table-refusal n t due room
   unfolding table-refusal
   table-as-due d h =

@@ -1,11 +1,10 @@
 // What is judged of a lent table.
-use limits::Kind;
 use refusals::Outcome;
 use refusals::Refusal;
 ghost use mathlib.Core.Path.{_≡_};
 ghost use mathlib.Core.Bool.{cond};
 ghost use mathlib.Core.Option.{some};
-ghost use Prim.Native.Nat.{_+_, _*_, _<_};
+ghost use Prim.Native.Nat.{_+_, _-_, _*_, _<_};
 ghost use lib.Dec.{ltb};
 ghost use Rattle.refusals.specs.Refusals.{outcome-of};
 ghost use Rattle.trees.specs.Tables.{cell, first-filled, first-unequal, cells-refusal};
@@ -83,16 +82,16 @@ fn wrong(n: usize, cells: &[u32]) -> Outcome
 pub fn judge(n: usize, cells: &[u32], due: usize, room: usize) -> Outcome
     ensures { λ r. ⌜ r ≡ outcome-of (table-refusal n (now (cells .entry)) due room) ⌝ }
 {
-    let sizes = checks::judge_sizes(
-        Kind::Counts,
-        n,
-        checks::table_cells(n),
-        cells.len(),
-        due,
-        room,
-    );
+    let sizes = checks::judge_table_sizes(n, cells.len(), due, room);
     let Outcome::Done = sizes else {
         return sizes;
     };
     wrong(n, cells)
+}
+
+// The same with room for a listing.
+pub fn judge_for_rows(n: usize, cells: &[u32], room: usize) -> Outcome
+    ensures { λ r. ⌜ r ≡ outcome-of (table-refusal n (now (cells .entry)) (2 * (n - 2)) room) ⌝ }
+{
+    judge(n, cells, checks::listing_numbers(n), room)
 }
