@@ -1,5 +1,5 @@
 -- Laws of sums over the numbers below n, over two of them, and over the pairs i < j; and of how far two are apart.
-use mathlib.Core.Path.{_≡_, refl, sym, _∙_}
+use mathlib.Core.Path.{_≡_, refl, ap, sym, _∙_}
 use mathlib.Core.Logic.{_≢_}
 use mathlib.Core.Bool.{Bool, true, false, _&&_}
 use Prim.Native.Nat.{ℕ, zero, suc, _+_, _-_, _*_, _≤_, _<_}
@@ -105,6 +105,19 @@ sum2-add n f g =
 pub zero-sum2 : (n : ℕ) (f : ℕ → ℕ → ℕ) → ((p q : ℕ) → f p q ≡ 0) → sum2 n f ≡ 0
 zero-sum2 n f h = zero-sum n _ (λ p l. zero-sum n (f p) (λ q m. h p q))
 
+-- the numbers below m
+sum-cut :
+    (n m : ℕ) (f : ℕ → ℕ) → m ≤ n → sum-below n (λ k. indicator (ltb k m) (f k)) ≡ sum-below m f
+unfolding sum-below
+sum-cut zero zero f l = refl
+sum-cut zero (suc m) f l = absurd (omega arith)
+sum-cut (suc n) m f l = elim (ℕ-discrete m (suc n)) [
+  | yes e ↦
+      rw (e, lt-ltb n (suc n) (omega arith))
+      (unfold sum-below in ap (λ x. x + f n) (sum-ext n _ f (λ k lk. rw (lt-ltb k (suc n) (omega arith)))))
+  | no d ↦ rw (le-ltb n m (omega arith)) (omega (arith, sum-cut n m f (omega arith)))
+]
+
 -- Over the pairs i < j.
 module _ (n : ℕ) (f : ℕ → ℕ → ℕ) where
   pub pair-sum-ext : (g : ℕ → ℕ → ℕ) → ((i j : ℕ) → i < j → j < n → f i j ≡ g i j) → pair-sum n f ≡ pair-sum n g
@@ -114,6 +127,13 @@ module _ (n : ℕ) (f : ℕ → ℕ → ℕ) where
   pub pair-sum-add : (g : ℕ → ℕ → ℕ) → pair-sum n (λ i j. f i j + g i j) ≡ pair-sum n f + pair-sum n g
   unfolding pair-sum
   pair-sum-add g = sum-ext n _ _ (λ j m. sum-add j (λ i. f i j) (λ i. g i j)) ∙ sum-add n _ _
+
+  -- as a sum over both numbers
+  pub pair-sum-two : pair-sum n f ≡ sum2 n (λ p q. indicator (ltb p q) (f p q))
+  unfolding pair-sum
+  pair-sum-two =
+      sum-ext n _ _ (λ q l. sym (sum-cut n q (λ p. f p q) (le-of-lt l)))
+      ∙ sym (sum-swap n n (λ p q. indicator (ltb p q) (f p q)))
 
   -- it is 0 where each part is, and the other way round
   pub zero-pair-sum : ((i j : ℕ) → i < j → j < n → f i j ≡ 0) → pair-sum n f ≡ 0

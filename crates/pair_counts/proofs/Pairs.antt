@@ -7,8 +7,9 @@ use Prim.Native.Nat.{ℕ, zero, suc, _+_, _-_, _*_, _≤_, _<_}
 use native.Mathlib.Nat.{add-zero, mul-zero, add-suc}
 use native.Mathlib.Numerals.{add-one}
 use native.Mathlib.Omega.{arith}
-use Rattle.base.specs.Numbers.{count-below}
+use Rattle.base.specs.Numbers.{indicator, count-below, sum-below, pair-sum}
 use Rattle.base.proofs.Bools.{bool?}
+use Rattle.base.proofs.Sums.{count-sum}
 use Rattle.base.proofs.Counts.{count-suc, count-imp, count-ext, count-or, count-false}
 use Rattle.limits.specs.Limits.{most-leaves, most-pairs, largest-cell}
 use Rattle.pair_counts.specs.Pairs.{P, pairs-below}
@@ -28,22 +29,18 @@ unfolding pairs-below count-below
 three-pairs = refl
 
 -- the same by addition: 0 + 1 + .. + (n − 1)
-triangle : ℕ → ℕ
-triangle zero = 0
-triangle (suc n) = triangle n + n
-
-sum-twice : (x : ℕ) → 2 * triangle (suc x) ≡ suc x * x
-unfolding triangle
+sum-twice : (x : ℕ) → 2 * sum-below (suc x) (λ k. k) ≡ suc x * x
+unfolding sum-below
 sum-twice zero = refl
 sum-twice (suc x) = omega (arith, sum-twice x)
 
-P-sum : (x : ℕ) → P x ≡ triangle x
-unfolding P triangle
+P-sum : (x : ℕ) → P x ≡ sum-below x (λ k. k)
+unfolding P sum-below
 P-sum zero = refl
 P-sum (suc x) = let e : suc x - 1 ≡ x = omega arith in rw e (omega (arith, sum-twice x))
 
 pub P-suc : (n : ℕ) → P (suc n) ≡ P n + n
-P-suc n = rw (P-sum (suc n), P-sum n) (unfold triangle in refl)
+P-suc n = rw (P-sum (suc n), P-sum n) (unfold sum-below in refl)
 
 -- two for each pair are n(n − 1)
 P-twice : (n : ℕ) → 2 * P (suc n) ≡ suc n * n
@@ -84,6 +81,12 @@ largest-is = refl
 pub pairs-suc : (n : ℕ) (f : ℕ → ℕ → Bool) → pairs-below (suc n) f ≡ pairs-below n f + count-below n (λ p. f p n)
 unfolding pairs-below
 pairs-suc n f = refl
+
+-- how many pairs pass, as a sum
+pub pairs-sum : (n : ℕ) (f : ℕ → ℕ → Bool) → pairs-below n f ≡ pair-sum n (λ p q. indicator (f p q) 1)
+unfolding pairs-below pair-sum sum-below
+pairs-sum zero f = refl
+pairs-sum (suc n) f = rw (pairs-sum n f, count-sum n (λ p. f p n))
 
 pub pairs-ext :
     (n : ℕ) (f g : ℕ → ℕ → Bool) → ((p q : ℕ) → p < q → q < n → f p q ≡ g p q) → pairs-below n f ≡ pairs-below n g

@@ -7,16 +7,16 @@ use mathlib.Core.List.{List, [], _∷_, _++_, map, flatMap}
 use Prim.Native.Nat.{ℕ, zero, suc, _+_, _-_, _<_}
 use native.Mathlib.Nat.{sub-zero, zero-add}
 use native.Mathlib.Omega.{arith}
-use borrow.Author.Tests.{ltb-true, lt-ltb, le-ltb}
+use borrow.Author.Tests.{ltb-true}
 use lib.Dec.{ltb}
 use Rattle.base.specs.Numbers.{indicator, sum-below}
 use Rattle.base.specs.Lists.{tab}
 use Rattle.base.proofs.Bools.{and-both}
 use Rattle.base.proofs.Counts.{indicator-add}
-use Rattle.base.proofs.Sums.{sum-ext, zero-sum, sum-add, sum-only, count-sum, indicator-sum, indicator-each, sum-above}
-use Rattle.base.proofs.Sums.{sum2, sum2-ext, sum2-add, zero-sum2}
+use Rattle.base.proofs.Sums.{sum-ext, zero-sum, sum-only, indicator-sum, indicator-each, sum-above}
+use Rattle.base.proofs.Sums.{sum2, sum2-ext, sum2-add, zero-sum2, pair-sum-two}
 use Rattle.pair_counts.specs.Pairs.{pairs-below}
-use Rattle.pair_counts.proofs.Pairs.{pairs-suc}
+use Rattle.pair_counts.proofs.Pairs.{pairs-sum}
 use Rattle.polls.specs.declared.judging.Quartet.{Quartet}
 use Rattle.polls.specs.Records.{from, four, with-three, with-two, with-one, quartets-of}
 
@@ -90,22 +90,9 @@ module _ (n i j : ℕ) (hi : i < n) (hj : j < n) (f : ℕ → ℕ → ℕ → �
       ∙ sum-only n j _ hj (λ d e. h a b i d (inr e)))
 
 -- how many pairs pass, as a sum: 1 where p < q, and they pass
-abbrev in-pair : (ℕ → ℕ → Bool) → ℕ → ℕ → ℕ
-in-pair f p q = indicator (ltb p q) (indicator (f p q) 1)
-
-pub pairs-sum : (n : ℕ) (f : ℕ → ℕ → Bool) → pairs-below n f ≡ sum2 n (in-pair f)
-unfolding sum-below
-pairs-sum zero f = unfold pairs-below in refl
-pairs-sum (suc n) f =
-    rw (pairs-suc n f, count-sum n (λ p. f p n))
-    (omega
-    (arith, pairs-sum n f, sum-add n (λ p. sum-below n (in-pair f p)) (λ p. in-pair f p n), last-row, last-column))
-  where
-    last-row : sum-below (suc n) (in-pair f n) ≡ 0
-    last-row = zero-sum (suc n) (in-pair f n) (λ q l. rw (le-ltb n q (omega arith)))
-
-    last-column : sum-below n (λ p. in-pair f p n) ≡ sum-below n (λ p. indicator (f p n) 1)
-    last-column = sum-ext n _ _ (λ p l. rw (lt-ltb p n l))
+pub pairs-two :
+    (n : ℕ) (f : ℕ → ℕ → Bool) → pairs-below n f ≡ sum2 n (λ p q. indicator (ltb p q) (indicator (f p q) 1))
+pairs-two n f = pairs-sum n f ∙ pair-sum-two n (λ p q. indicator (f p q) 1)
 
 -- the sum over a list of quartets
 unfoldable pub total : (Quartet → ℕ) → List Quartet → ℕ

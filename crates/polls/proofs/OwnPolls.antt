@@ -38,7 +38,7 @@ use Rattle.polls.proofs.Counts.{of-four, adds-code, pairs-apart, poll-m
 use Rattle.polls.proofs.Records.{passes-of, same-leaves}
 use Rattle.polls.proofs.Quartets.{quartets-count}
 use Rattle.polls.proofs.Operations.{sizes-pass}
-use Rattle.polls.proofs.FourSums.{sum2-six, sum4-ext, sum4-zero, pairs-sum}
+use Rattle.polls.proofs.FourSums.{sum2-six, sum4-ext, sum4-zero, pairs-two}
 use Rattle.polls.proofs.FourSums.{only-ab, only-ac, only-ad, only-bc, only-bd, only-cd, total, total-sum}
 use Rattle.polls.proofs.FourSums.{rising, rising-lt, over, over-six}
 use Rattle.polls.proofs.Orders.{orders, no-order, one-order}
@@ -283,7 +283,7 @@ module _ (n : ℕ) (T : Tree) (t : IsTree n T) (i j : ℕ) (ij : i < j) (jn : j 
   unfolding quartets
   own-cell =
       own-over ∙ over-orders ∙ sum2-ext n _ _ (λ p q lp lq. orders-pass p q)
-      ∙ rw (ne-eqb i j (λ e. omega arith)) (sym (pairs-sum n (λ p q. (other i j p && other i j q) && paired T i j p q)))
+      ∙ rw (ne-eqb i j (λ e. omega arith)) (sym (pairs-two n (λ p q. (other i j p && other i j q) && paired T i j p q)))
 
 -- every cell of an own poll is the tree's
 diagonal-total : (n : ℕ) (T : Tree) (i : ℕ) → total (own-adds T i i) (quartets-of n) ≡ 0

@@ -6,20 +6,17 @@ use mathlib.Core.Logic.{_⊎_, inl, inr, _≢_}
 use mathlib.Core.Bool.{true, false, _||_, or-comm}
 use Prim.Native.Nat.{ℕ, _<_}
 use native.Mathlib.Omega.{arith}
-use native.Mathlib.Decide.{decLt, ℕ-discrete}
-use borrow.Author.Tests.{ltb-true, lt-ltb, le-ltb, ne-eqb}
+use native.Mathlib.Decide.{ℕ-discrete}
+use borrow.Author.Tests.{ltb-true, lt-ltb, ne-eqb}
 use lib.Dec.{ltb}
-use Rattle.base.proofs.Bools.{bool?, never, is-false, bool-iff, or-left, or-none, or-cases}
-use Rattle.base.proofs.Counts.{indicator-le}
+use Rattle.base.proofs.Bools.{bool?, never, bool-iff, or-left, or-none, or-cases}
 use Rattle.trees.specs.Trees.{Tree, leaf, node, leaves, occurrences, IsTree, least, join, ordered}
 use Rattle.trees.specs.Rerooting.{IsHeld, reroot-along, rerooted}
 use Rattle.trees.specs.Quartets.{separates, paired, quartets}
 use Rattle.trees.proofs.Trees.{leaves-node, leaves-join, leaf-eq, least-in, least-le, Apart, apart-sym}
 use Rattle.trees.proofs.Trees.{join-in-order, join-comm, join-either, apart-join, Distinct, Within}
-use Rattle.trees.proofs.Trees.{ordered-leaves, ordered-apart}
-use Rattle.trees.proofs.Trees.{ordered-in-order, ordered-is, occurrences-some}
-use Rattle.trees.proofs.Trees.{occurrences-none, occurrences-once, once-distinct, tree-on, root-within}
-use Rattle.trees.proofs.Trees.{root-distinct, root-all}
+use Rattle.trees.proofs.Trees.{ordered-leaves, ordered-apart, ordered-in-order, ordered-is, once-leaves}
+use Rattle.trees.proofs.Trees.{leaves-once, tree-on, root-within, root-distinct, root-all}
 use Rattle.trees.proofs.Subtrees.{In, in-whole, Part, part-in, in-part, swap, Same, same-refl, same-trans}
 use Rattle.trees.proofs.Quartets.{separates-in, paired-by, quartets-ext}
 
@@ -30,23 +27,17 @@ pub record Held (n : ℕ) (R : Tree) : Type 0 where
   pub all : (k : ℕ) → k < n → leaves R k ≡ true
 
 pub held-on : (n : ℕ) (R : Tree) → IsHeld n R → Held n R
-held-on n R h = record {
-  distinct = once-distinct R (λ k. rw (h k) (indicator-le (ltb k n)));
-  within = λ k p. elim (bool? (ltb k n)) [
-    | inl t ↦ ltb-true k n t
-    | inr f ↦ absurd (omega (arith, occurrences-some R k p, (rw f at (h k))))
-  ];
-  all = λ k l. elim (bool? (leaves R k)) [
-    | inl t ↦ t
-    | inr f ↦ absurd (omega (arith, occurrences-none R k f, (rw (lt-ltb k n l) at (h k))))
-  ];
-}
+held-on n R h =
+    let r = once-leaves R (λ k. ltb k n) h in
+    record {
+      distinct = r .0;
+      within = λ k p. ltb-true k n (sym (r .1 k) ∙ p);
+      all = λ k l. r .1 k ∙ lt-ltb k n l;
+    }
 
 pub on-held : (n : ℕ) (R : Tree) → Held n R → IsHeld n R
-on-held n R w k = elim (decLt k n) [
-  | yes l ↦ rw (lt-ltb k n l) (occurrences-once R k (w .distinct) (w .all k l))
-  | no g ↦ rw (le-ltb k n (omega arith)) (occurrences-none R k (is-false (leaves R k) (λ t. g (w .within k t))))
-]
+on-held n R w = leaves-once R (λ k. ltb k n) (w .distinct) (λ k.
+    bool-iff _ _ (λ t. lt-ltb k n (w .within k t)) (λ t. w .all k (ltb-true k n t)))
 
 -- a tree as it is drawn from leaf 0, held at the edge of leaf 0; rerooted it is itself
 pub tree-held : (n : ℕ) (T : Tree) → 0 < n → IsTree n T → IsHeld n (node (leaf 0) T)
@@ -105,14 +96,22 @@ module _ (n : ℕ) where
   abbrev Sides : Tree → Tree → Type 0
   Sides R R′ = (X : Tree) → Part X R → (Y : Tree) × Part Y R′ × Same n X Y
 
-  sides-then : (R R′ R″ : Tree) → Sides R R′ → Sides R′ R″ → Sides R R″
-  sides-then R R′ R″ p q X h =
-      let r = p X h in
-      let t = q (r .0) (r .1) in
-      (t .0, t .1, same-trans n X (r .0) (t .0) (r .2) (t .2))
+  -- R′ is on n leaves, and has the edges of R and no other
+  abbrev Like : Tree → Tree → Type 0
+  Like R R′ = IsHeld n R′ × Sides R R′ × Sides R′ R
 
-  flip-sides : (A B : Tree) → Sides (node A B) (node B A)
-  flip-sides A B X h = (X, swap h, same-refl n X)
+  like-then : (R R′ R″ : Tree) → Like R R′ → Like R′ R″ → Like R R″
+  like-then R R′ R″ p q = (q .0, then R R′ R″ (p .1) (q .1), then R″ R′ R (q .2) (p .2))
+    where
+      then : (R R′ R″ : Tree) → Sides R R′ → Sides R′ R″ → Sides R R″
+      then R R′ R″ p q X h =
+          let r = p X h in
+          let t = q (r .0) (r .1) in
+          (t .0, t .1, same-trans n X (r .0) (t .0) (r .2) (t .2))
+
+  like-flip : (A B : Tree) → IsHeld n (node A B) → Like (node A B) (node B A)
+  unfolding occurrences
+  like-flip A B h = (λ k. omega (arith, h k), λ X p. (X, swap p, same-refl n X), λ X p. (X, swap p, same-refl n X))
 
   mirror-sides : (A A′ B : Tree) → Sides (node (node A A′) B) (node (node A′ A) B)
   mirror-sides A A′ B X h = elim h [
@@ -128,48 +127,27 @@ module _ (n : ℕ) where
     | inr b ↦ (X, inr b, same-refl n X)
   ]
 
-  turn-sides : (A A′ B : Tree) → Held n (node (node A A′) B) → Sides (node (node A A′) B) (node A (node B A′))
-  turn-sides A A′ B w X h = elim h [
+  like-mirror : (A A′ B : Tree) → IsHeld n (node (node A A′) B) → Like (node (node A A′) B) (node (node A′ A) B)
+  unfolding occurrences
+  like-mirror A A′ B h = (λ k. omega (arith, h k), mirror-sides A A′ B, mirror-sides A′ A B)
+
+  turn-sides : (A A′ B : Tree) → IsHeld n (node (node A A′) B) → Sides (node (node A A′) B) (node A (node B A′))
+  turn-sides A A′ B g X h = elim h [
     | inl a ↦ elim a [
-      | inl e ↦ (B, inr (inr (inl (in-whole B))), rw e (held-same (node A A′) B w))
+      | inl e ↦ (B, inr (inr (inl (in-whole B))), rw e (held-same (node A A′) B (held-on n _ g)))
       | inr x ↦ elim x [ inl x′ ↦ (X, inl x′, same-refl n X) | inr y ↦ (X, inr (inr (inr y)), same-refl n X) ]
     ]
     | inr b ↦ (X, inr (inr (inl b)), same-refl n X)
   ]
 
-  -- R′ is on the same leaves, and has the edges of R and no other
-  abbrev Like : Tree → Tree → Type 0
-  Like R R′ = IsHeld n R′ × Sides R R′ × Sides R′ R
-
-  like-flip : (R A B : Tree) → Like R (node A B) → Like R (node B A)
-  unfolding occurrences
-  like-flip R A B q = (
-    λ k. omega (arith, q .0 k),
-    sides-then R (node A B) (node B A) (q .1) (flip-sides A B),
-    sides-then (node B A) (node A B) R (flip-sides B A) (q .2),
-  )
-
-  like-mirror : (R A A′ B : Tree) → Like R (node (node A A′) B) → Like R (node (node A′ A) B)
-  unfolding occurrences
-  like-mirror R A A′ B q = (
-    λ k. omega (arith, q .0 k),
-    sides-then R (node (node A A′) B) (node (node A′ A) B) (q .1) (mirror-sides A A′ B),
-    sides-then (node (node A′ A) B) (node (node A A′) B) R (mirror-sides A′ A B) (q .2),
-  )
-
   -- a turn back is a turn between two flips
-  like-turn : (R A A′ B : Tree) → Like R (node (node A A′) B) → Like R (node A (node B A′))
+  like-turn : (A A′ B : Tree) → IsHeld n (node (node A A′) B) → Like (node (node A A′) B) (node A (node B A′))
   unfolding occurrences
-  like-turn R A A′ B q = (
-    λ k. omega (arith, q .0 k),
-    sides-then R (node (node A A′) B) (node A (node B A′)) (q .1) (turn-sides A A′ B (held-on n _ (q .0))),
-    sides-then (node A (node B A′)) (node (node B A′) A) R (flip-sides A (node B A′))
-        (sides-then (node (node B A′) A) (node B (node A A′)) R (turn-sides B A′ A back)
-        (sides-then (node B (node A A′)) (node (node A A′) B) R (flip-sides B (node A A′)) (q .2))),
+  like-turn A A′ B h = (
+    λ k. omega (arith, h k),
+    turn-sides A A′ B h,
+    λ X p. (let r = turn-sides B A′ A (λ k. omega (arith, h k)) X (swap p) in (r .0, swap (r .1), r .2)),
   )
-    where
-      back : Held n (node (node B A′) A)
-      back = held-on n (node (node B A′) A) (λ k. omega (arith, q .0 k))
 
   -- A tree held at an edge.
   module _ (R : Tree) (many : 1 < n) (h : IsHeld n R) where
@@ -184,7 +162,9 @@ module _ (n : ℕ) where
             let v = held-on n (leaf x) g in
             absurd (omega (arith, leaf-eq 0 x (v .all 0 (omega arith)), leaf-eq 1 x (v .all 1 many)))
         go (node A B) g =
-            keeps (Like (node A B)) (like-flip (node A B)) (like-mirror (node A B)) (like-turn (node A B)) A B
+            keeps (Like (node A B)) (λ C D q. like-then (node A B) (node C D) (node D C) q (like-flip C D (q .0)))
+            (λ C C′ D q. like-then (node A B) (node (node C C′) D) (node (node C′ C) D) q (like-mirror C C′ D (q .0)))
+            (λ C C′ D q. like-then (node A B) (node (node C C′) D) (node C (node D C′)) q (like-turn C C′ D (q .0))) A B
             (held-on n (node A B) g .all 0 (omega arith))
             (g, λ X p. (X, p, same-refl n X), λ X p. (X, p, same-refl n X))
 

@@ -55,13 +55,6 @@ pub subtree-at-leaf : (n : ℕ) (l : List ℕ) (k : ℕ) → k < n → subtree-a
 unfolding subtree-at
 subtree-at-leaf n l k h = rows-old leaf n l k h
 
--- the node of row k joins what stands under its children, where these come before it
-subtree-at-node :
-    (n : ℕ) (l : List ℕ) (k : ℕ) → 2 * k + 1 < length l → getD l (2 * k) 0 < n + k → getD l (2 * k + 1) 0 < n + k
-    → subtree-at n l (n + k) ≡ node (subtree-at n l (getD l (2 * k) 0)) (subtree-at n l (getD l (2 * k + 1) 0))
-unfolding subtree-at
-subtree-at-node n l k h p q = rows-node leaf n l k h p q
-
 -- what the rules say of each place
 kept-at :
     (n : ℕ) (before : List ℕ) (i p : ℕ) (l : List ℕ) → rules-refusal-from n before i p l ≡ none → (q : ℕ)
@@ -86,10 +79,11 @@ module _ (n : ℕ) (l : List ℕ) (c : IsLeafCount n) (w : KeepsRules n l) where
   pub subtree-at-row :
       (k : ℕ) → k < n - 2
       → subtree-at n l (n + k) ≡ node (subtree-at n l (getD l (2 * k) 0)) (subtree-at n l (getD l (2 * k + 1) 0))
+  unfolding subtree-at
   subtree-at-row k h =
       let first = child-before (2 * k) (omega (arith, w .numbers)) in
       let second = child-before (2 * k + 1) (omega (arith, w .numbers)) in
-      subtree-at-node n l k (omega (arith, w .numbers)) (omega arith) (omega arith)
+      rows-node leaf n l k (omega (arith, w .numbers)) (omega arith) (omega arith)
 
 after-row :
     {n r : ℕ} {f : ℕ → Tree} {live : ℕ → Bool} {a b : ℕ} {l : List ℕ} → Forest n r f live → LawfulRow live r a b l
