@@ -5,12 +5,13 @@ use mathlib.Core.List.{List}
 use Prim.Native.Nat.{ℕ, zero, suc, _+_, _-_, _*_, _/_, _≤_, _<_}
 use native.Mathlib.Nat.{mul-le-mul, mul-le-mul-left}
 use native.Mathlib.Omega.{arith}
-use lib.ListN.{getD}
+use lib.ListN.{getD, take, drop}
 use Rattle.base.specs.Numbers.{sum-below}
 use Rattle.base.proofs.Lists.{getD-tab}
 use Rattle.limits.specs.Limits.{most-leaves}
 use Rattle.pair_counts.specs.Pairs.{P}
 use Rattle.pair_counts.proofs.Pairs.{P-suc}
+use Rattle.byte_numbers.specs.Bytes.{number}
 use Rattle.packed_tables.specs.Packed.{cells-before, packed-cells}
 
 -- the cells of the rows before row i, by a product
@@ -50,9 +51,8 @@ module _ (n i : ℕ) (few : n ≤ most-leaves) (h : i < n) where
   pub half-below : i * (i + 1) ≤ i * n
   half-below = let l : i + 1 ≤ n = omega arith in mul-le-mul-left i l
 
--- the cell at place k is byte 2k and byte 2k + 1
+-- the cell at place k stands in the two bytes from 2k on
 pub cell-in-bytes :
-    (n : ℕ) (B : List ℕ) (k : ℕ) → k < P n
-    → getD (packed-cells n B) k 0 ≡ getD B (2 * k) 0 + 256 * getD B (2 * k + 1) 0
+    (n : ℕ) (B : List ℕ) (k : ℕ) → k < P n → getD (packed-cells n B) k 0 ≡ number (take 2 (drop (2 * k) B))
 unfolding packed-cells
-cell-in-bytes n B k h = getD-tab (P n) (λ k. getD B (2 * k) 0 + 256 * getD B (2 * k + 1) 0) k 0 h
+cell-in-bytes n B k h = getD-tab (P n) (λ k. number (take 2 (drop (2 * k) B))) k 0 h

@@ -5,11 +5,12 @@ use mathlib.Core.Bool.{cond}
 use mathlib.Core.List.{List}
 use Prim.Native.Nat.{ℕ, _+_, _-_, _*_, _/_, _%_}
 use lib.Dec.{ltb}
-use lib.ListN.{length, getD}
+use lib.ListN.{length, getD, take, drop}
 use Rattle.base.specs.Numbers.{sum-below}
 use Rattle.base.specs.Lists.{tab}
 use Rattle.limits.specs.Limits.{IsLeafCount}
 use Rattle.pair_counts.specs.Pairs.{P}
+use Rattle.byte_numbers.specs.Bytes.{number}
 
 -- how many cells above the diagonal stand before cell (i, j), i < j, row by row: n − 1 in row 0, n − 2 in row 1, ..,
 -- and j − i − 1 in row i itself
@@ -26,7 +27,7 @@ table-with n c = tab (n * n) (λ k. mirrored n c (k / n) (k % n))
 
 -- the cells above the diagonal that the bytes B hold
 unfoldable pub packed-cells : ℕ → List ℕ → List ℕ
-packed-cells n B = tab (P n) (λ k. getD B (2 * k) 0 + 256 * getD B (2 * k + 1) 0)
+packed-cells n B = tab (P n) (λ k. number (take 2 (drop (2 * k) B)))
 
 -- the bytes of n leaves: two for each pair of them
 abbrev pub Packed : ℕ → List ℕ → Type 0

@@ -7,13 +7,6 @@ ghost use Rattle.base.specs.Lists.{filled};
 ghost use Rattle.limits.specs.Limits.{most-leaves};
 ghost use Rattle.packed_tables.specs.Packed.{cells-before, mirrored, packed-cells, Packed};
 
-// A byte as a number of the width of a cell.
-fn u32_of(x: u8) -> u32
-    ensures { λ r. ⌜ (r ≡ x) × (r < 256) ⌝ }
-{
-    x as u32
-}
-
 // How many cells above the diagonal stand before cell (i, j), i < j.
 fn cells_before(n: usize, i: usize, j: usize) -> usize
     requires { ⌜ (n ≤ most-leaves) × (i < j) × (j < n) ⌝ }
@@ -27,10 +20,7 @@ fn cell_above(n: usize, packed: &[u8], i: usize, j: usize) -> u32
     requires { ⌜ Packed n (now packed) × (i < j) × (j < n) ⌝ }
     ensures { λ r. ⌜ r ≡ getD (packed-cells n (now (packed .entry))) (cells-before n i j) 0 ⌝ }
 {
-    let at = 2 * cells_before(n, i, j);
-    let low = u32_of(packed[at]);
-    let high = u32_of(packed[at + 1]);
-    low + 256 * high
+    byte_numbers::pair_at(packed, 2 * cells_before(n, i, j)) as u32
 }
 
 // Cell (i, j) of the table: below the diagonal the mirror cell, on it 0.

@@ -1,7 +1,4 @@
-pub mod Figures
-pub mod Questions
-pub mod SheetFigures
-pub mod PollFigures
-pub mod Replies
+pub mod HalvesReplies
+mod Questions
 pub mod NameReplies
 pub mod SheetCall

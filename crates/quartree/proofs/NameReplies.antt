@@ -1,7 +1,9 @@
--- The figure of a name that is found, taken apart again: the place of its first byte in the sheet, and its length.
-use mathlib.Core.Path.{_≡_, ap, sym, _∙_}
+-- The reply to a question for a name: it is made of the place that is found; and the figure of a name that is found is
+-- taken apart again, the place of its first byte in the sheet, and its length.
+use mathlib.Core.Path.{_≡_, refl, ap, sym, _∙_}
 use mathlib.Core.Bool.{true, _&&_}
 use mathlib.Core.List.{List, [], _∷_}
+use mathlib.Core.Option.{Option, none, some}
 use Prim.Native.Nat.{ℕ, _+_, _*_, _/_, _%_, _<_}
 use native.Mathlib.Omega.{arith}
 use borrow.Author.Tests.{leb-true}
@@ -9,16 +11,39 @@ use lib.Dec.{leb}
 use lib.ListN.{length}
 use Rattle.base.specs.Lists.{all-in}
 use Rattle.base.proofs.Bools.{and-both}
-use Rattle.refusals.specs.Refusals.{accepted}
+use Rattle.refusals.specs.declared.Refusal.{Refusal}
+use Rattle.refusals.specs.Refusals.{accepted, answered, outcome}
 use Rattle.refusals.proofs.Answers.{judged-alone, judged-none, answered-accepted}
 use Rattle.checks.specs.Questions.{question-refusal}
 use Rattle.sheets.specs.Sheets.{leaves-of, offset-of, name-start, name, longest-name, name-byte, is-name}
 use Rattle.sheets.specs.Operations.{kept-sheet-refusal, sheet-refusal}
 use Rattle.sheets.proofs.Accepted.{names-good}
-use Rattle.sheet_names.specs.Operations.{name-answer}
-use Rattle.sheet_names.proofs.Asked.{leaf-below}
-use Rattle.quartree.specs.Replies.{reply-with}
-use Rattle.quartree.proofs.Replies.{eight-bits, reply-with-figure, two-in-one}
+use Rattle.sheet_names.specs.declared.NamePlace.{NamePlace}
+use Rattle.sheet_names.specs.Operations.{name-answer, placed, name-place-answer}
+use Rattle.sheet_names.proofs.Asked.{leaf-below, asked-few}
+use Rattle.replies.specs.Replies.{eight-bits, figure-limit, reply-with}
+use Rattle.replies.specs.inner.Outcomes.{outcome-reply-with}
+use Rattle.replies.proofs.Replies.{reply-with-figure, two-in-one}
+
+-- the reply of the outcome at a place, with the place and the length as its figure k
+placed-replied :
+    (p : ℕ) (o : Option Refusal) (x : List ℕ) (k : ℕ) {r : ℕ} {q : NamePlace} → q ≡ placed p (answered o x)
+    → r ≡ outcome-reply-with k (q .outcome)
+    → k % figure-limit ≡ (eight-bits * q .first + q .many) % figure-limit
+    → r ≡ reply-with (eight-bits * p + length x) (answered o x)
+unfolding placed answered reply-with
+placed-replied p none x k e h s = let t = rw e at s in rw (e, t) at h
+placed-replied p (some r) x k e h s = rw e at h
+
+pub place-replied :
+    (S : List ℕ) (leaf k : ℕ) {r : ℕ} {q : NamePlace} → q ≡ name-place-answer S leaf
+    → r ≡ outcome-reply-with k (q .outcome)
+    → k % figure-limit ≡ (eight-bits * q .first + q .many) % figure-limit
+    → r
+    ≡ reply-with (eight-bits * (name-start S leaf + 1) + length (name S leaf))
+    (name-answer S (leaves-of S) (offset-of S) leaf)
+unfolding name-place-answer name-answer
+place-replied S leaf k = placed-replied (name-start S leaf + 1) _ (name S leaf) k
 
 -- a name is short
 name-short : (x : List ℕ) → is-name x ≡ true → length x < eight-bits
@@ -51,7 +76,8 @@ module _ (S : List ℕ) (leaf : ℕ) (x : List ℕ) (e : name-answer S (leaves-o
       (replied / eight-bits / eight-bits ≡ name-start S leaf + 1)
       × (replied / eight-bits % eight-bits ≡ length (name S leaf))
   name-apart =
-      let both = two-in-one (name-start S leaf + 1) (length (name S leaf)) short in
-      let figured : replied / eight-bits ≡ place-and-length =
+      let low = asked-few S (leaves-of S) (offset-of S) leaf (ap outcome e ∙ unfold outcome in refl) in
+      let both = two-in-one (name-start S leaf + 1) (length (name S leaf)) (omega (arith, low)) short in
+      let figured : replied / eight-bits ≡ place-and-length % figure-limit =
       reply-with-figure place-and-length (name-answer S (leaves-of S) (offset-of S) leaf) ∙ rw e in
       (ap (λ k. k / eight-bits) figured ∙ both .0, ap (λ k. k % eight-bits) figured ∙ both .1)

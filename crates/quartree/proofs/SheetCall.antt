@@ -1,6 +1,6 @@
 -- The sheet call, `quartree_rebuild_sheet`, by the number that it returns: 0 exactly when the sheet is accepted, the
 -- room is enough and some tree has the sheet's table; 6 exactly when all is so but that no tree has it. What the bytes
--- then are is said in strains/proofs/Promises.antt.
+-- then are is said in sheet_trees/proofs/Promises.antt.
 use mathlib.Core.Path.{_≡_}
 use mathlib.Core.Logic.{_↔_}
 use mathlib.Core.List.{List}
@@ -10,8 +10,8 @@ use Rattle.sheets.specs.Sheets.{leaves-of, cells-of}
 use Rattle.packed_tables.specs.Packed.{table-with}
 use Rattle.sheet_trees.specs.Operations.{sheet-bytes-answer}
 use Rattle.sheet_trees.proofs.Promises.{SheetPasses, sheet-accepted-exactly-when, sheet-refused-exactly-when}
-use Rattle.quartree.specs.Replies.{number-alone}
-use Rattle.quartree.proofs.Replies.{number-alone-zero, number-alone-six}
+use Rattle.replies.specs.Replies.{number-alone}
+use Rattle.replies.proofs.Replies.{number-alone-zero, number-alone-six}
 
 module _ (S : List ℕ) (room : ℕ) where
   abbrev n : ℕ

@@ -1,3 +1,2 @@
-pub mod Replies
 pub mod Entries
-pub mod Steps
+pub mod inner

@@ -1,11 +1,9 @@
 // The C interface (include/quartree.h): one thin entry for each public operation.
 use pairings::Paired;
-use refusals::Outcome;
-use refusals::Refusal;
 ghost use mathlib.Core.Path.{_≡_};
-ghost use Prim.Native.Nat.{_+_, _*_, _<_};
+ghost use Prim.Native.Nat.{_+_, _*_};
 ghost use lib.ListN.{length};
-ghost use Rattle.refusals.specs.Refusals.{figures-of, written};
+ghost use Rattle.refusals.specs.Refusals.{written};
 ghost use Rattle.refusals.specs.Meanings.{Gives};
 ghost use Rattle.listings.specs.Operations.{check-answer, standardise-answer};
 ghost use Rattle.splits.specs.Operations.{splits-answer};
@@ -19,76 +17,18 @@ ghost use Rattle.sheet_names.specs.Operations.{name-answer};
 ghost use Rattle.sheet_trees.specs.Operations.{sheet-bytes-answer};
 ghost use Rattle.sheet_trees.specs.Meanings.{SheetBytesMean};
 ghost use Rattle.polls.specs.Operations.{poll-answer};
-ghost use Rattle.quartree.specs.Replies.{figure, refusal-reply, reply, number-reply, reply-with};
-ghost use Rattle.quartree.specs.Replies.{number-alone};
+ghost use Rattle.replies.specs.Replies.{reply, number-reply, reply-with, number-alone};
 ghost use Rattle.quartree.specs.Entries.{lent-pairing-answer};
-ghost use Rattle.quartree.specs.Steps.{AllSmall, SmallFigures, outcome-reply, outcome-reply-with, SmallPaired};
-ghost use Rattle.quartree.specs.Steps.{paired-reply};
-
-// The figures of a refusal as one number.
-fn figure_of(r: Refusal) -> usize
-    requires { ⌜ AllSmall (figures-of r) ⌝ }
-    ensures { λ x. ⌜ x ≡ figure (figures-of r) ⌝ }
-{
-    match r {
-        Refusal::LeafCount => 0,
-        Refusal::InputLength => 0,
-        Refusal::OutputRoom => 0,
-        Refusal::Diagonal(i) => i,
-        Refusal::Halves(i, j) => 256 * i + j,
-        Refusal::NoTree => 0,
-        Refusal::Child(p) => p,
-        Refusal::NamedBefore(p) => p,
-        Refusal::Question(p) => p,
-        Refusal::Record(k) => k,
-        Refusal::PairingCode(k) => k,
-        Refusal::Proposal(k) => k,
-        Refusal::SheetEnds => 0,
-        Refusal::SheetLength => 0,
-        Refusal::Name(i) => i,
-        Refusal::SameName(i) => i,
-    }
-}
-
-// The reply of a refused call.
-fn refusal_reply(r: Refusal) -> u64
-    requires { ⌜ AllSmall (figures-of r) ⌝ }
-    ensures { λ x. ⌜ x ≡ refusal-reply r ⌝ }
-{
-    refusals::number(r) as u64 + 256 * (figure_of(r) as u64)
-}
-
-// The reply of a call whose result, if it has one, stands in a buffer.
-fn reply_of(answer: Outcome) -> u64
-    requires { ⌜ SmallFigures answer ⌝ }
-    ensures { λ x. ⌜ x ≡ outcome-reply answer ⌝ }
-{
-    let Outcome::Refused(r) = answer else {
-        return 0;
-    };
-    refusal_reply(r)
-}
+ghost use Rattle.quartree.specs.inner.Questions.{paired-reply};
 
 // The reply of a question.
 fn paired_reply(answer: Paired) -> u64
-    requires { ⌜ SmallPaired answer ⌝ }
     ensures { λ x. ⌜ x ≡ paired-reply answer ⌝ }
 {
     match answer {
-        Paired::As(code) => 256 * (code as u64),
-        Paired::Refused(r) => refusal_reply(r),
+        Paired::As(code) => replies::in_one(0, code as usize),
+        Paired::Refused(r) => replies::refusal_reply(r),
     }
-}
-
-// The reply of a call that, where it is accepted, has this number for a result.
-fn reply_with(x: usize, answer: Outcome) -> u64
-    requires { ⌜ (x < 4294967296) × SmallFigures answer ⌝ }
-    ensures { λ r. ⌜ r ≡ outcome-reply-with x answer ⌝ }
-{
-    let Outcome::Done = answer else {
-        return reply_of(answer);
-    };
-    256 * (x as u64)
 }
 
 // Whether a listing keeps the rules: 1, 2, 7, 8.
@@ -96,7 +36,7 @@ fn reply_with(x: usize, answer: Outcome) -> u64
 pub extern "C" fn quartree_check(n: usize, listing: &[u16]) -> u64
     ensures { λ r. ⌜ r ≡ reply (check-answer n (now (listing .entry))) ⌝ }
 {
-    reply_of(listings::check(n, listing))
+    replies::reply_of(listings::check(n, listing))
 }
 
 // The standard listing of the tree that a listing stands for: 1, 2, 3, 7, 8.
@@ -106,7 +46,7 @@ pub extern "C" fn quartree_standardise(n: usize, listing: &[u16], out: &mut [u16
     ensures buffer { λ r. ⌜ now (out .exit)
         ≡ written (standardise-answer n (now (listing .entry)) (length (now (out .entry)))) (now (out .entry)) ⌝ }
 {
-    reply_of(listings::standardise(n, listing, out))
+    replies::reply_of(listings::standardise(n, listing, out))
 }
 
 // The splits of the tree that a listing stands for, as leaf sets: 1, 2, 3, 7, 8.
@@ -116,7 +56,7 @@ pub extern "C" fn quartree_splits(n: usize, listing: &[u16], out: &mut [u8]) -> 
     ensures buffer { λ r. ⌜ now (out .exit)
         ≡ written (splits-answer n (now (listing .entry)) (length (now (out .entry)))) (now (out .entry)) ⌝ }
 {
-    reply_of(splits::splits(n, listing, out))
+    replies::reply_of(splits::splits(n, listing, out))
 }
 
 // How the tree that a listing stands for pairs four leaves: 1, 2, 7, 8, 9.
@@ -141,7 +81,7 @@ pub extern "C" fn quartree_table(n: usize, listing: &[u16], out: &mut [u32]) -> 
     ensures buffer { λ r. ⌜ now (out .exit)
         ≡ written (table-answer n (now (listing .entry)) (length (now (out .entry)))) (now (out .entry)) ⌝ }
 {
-    reply_of(tree_tables::table(n, listing, out))
+    replies::reply_of(tree_tables::table(n, listing, out))
 }
 
 // The gap between a table and the tree that a listing stands for: 1, 2, 3, 7, 8, 4, 5.
@@ -153,7 +93,7 @@ pub extern "C" fn quartree_gap(n: usize, cells: &[u32], listing: &[u16], out: &m
         ≡ written (gap-answer n (now (cells .entry)) (now (listing .entry)) (length (now (out .entry))))
         (now (out .entry)) ⌝ }
 {
-    reply_of(tree_tables::gap(n, cells, listing, out))
+    replies::reply_of(tree_tables::gap(n, cells, listing, out))
 }
 
 // Our own rebuild: 1, 2, 3, 4, 5, 6.
@@ -165,7 +105,7 @@ pub extern "C" fn quartree_rebuild(n: usize, cells: &[u32], out: &mut [u16]) -> 
     ensures meaning { λ r. ⌜ Gives reply (RebuildMeans n (now (cells .entry)) (length (now (out .entry)))) r
         (now (out .entry)) (now (out .exit)) ⌝ }
 {
-    reply_of(own_rebuild::rebuild(n, cells, out))
+    replies::reply_of(own_rebuild::rebuild(n, cells, out))
 }
 
 // The guided rebuild: 1, 2, 3, 4, 5, 12.
@@ -185,7 +125,7 @@ pub extern "C" fn quartree_rebuild_guided(
         (GuidedMeans n (now (cells .entry)) (now (merges .entry)) (length (now (out .entry)))) r
         (now (out .entry)) (now (out .exit)) ⌝ }
 {
-    reply_of(guided_rebuild::rebuild_guided(n, cells, merges, out))
+    replies::reply_of(guided_rebuild::rebuild_guided(n, cells, merges, out))
 }
 
 // Whether a sheet keeps the rules, and its leaf count as the figure: 13, 1, 14, 15, 16.
@@ -193,7 +133,8 @@ pub extern "C" fn quartree_rebuild_guided(
 pub extern "C" fn quartree_check_sheet(sheet: &[u8]) -> u64
     ensures { λ r. ⌜ r ≡ reply-with (leaves-of (now (sheet .entry))) (check-sheet-answer (now (sheet .entry))) ⌝ }
 {
-    reply_with(sheets::leaf_count_of(sheet), sheets::check_sheet(sheet))
+    let figures = sheets::figures_of(sheet);
+    replies::reply_with(figures.leaves, sheets::judge_sheet(sheet, figures, 0, 0))
 }
 
 // The table of a sheet, and its leaf count as the figure: 13, 1, 14, 3, 15, 16.
@@ -204,10 +145,8 @@ pub extern "C" fn quartree_sheet_table(sheet: &[u8], out: &mut [u32]) -> u64
     ensures buffer { λ r. ⌜ now (out .exit)
         ≡ written (sheet-table-answer (now (sheet .entry)) (length (now (out .entry)))) (now (out .entry)) ⌝ }
 {
-    reply_with(
-        sheets::leaf_count_of(sheet),
-        sheet_tables::sheet_table(sheet, out),
-    )
+    let figures = sheets::figures_of(sheet);
+    replies::reply_with(figures.leaves, sheet_tables::table_of(sheet, figures, out))
 }
 
 // The name of a leaf: as the figure 256 times the place of its first byte in the sheet, and its length: 13, 1, 14, 15,
@@ -220,7 +159,7 @@ pub extern "C" fn quartree_sheet_name(sheet: &[u8], leaf: usize) -> u64
 {
     let place = sheet_names::name_place(sheet, leaf);
     let outcome = place.outcome;
-    reply_with(256 * place.first + place.many, outcome)
+    replies::reply_with(replies::two_figures(place.first, place.many), outcome)
 }
 
 // A poll added up: 1, 2, 3, 10, 11.
@@ -230,7 +169,7 @@ pub extern "C" fn quartree_poll(n: usize, records: &[polls::Record], out: &mut [
     ensures buffer { λ r. ⌜ now (out .exit)
         ≡ written (poll-answer n (now (records .entry)) (length (now (out .entry)))) (now (out .entry)) ⌝ }
 {
-    reply_of(polls::poll(n, records, out))
+    replies::reply_of(polls::poll(n, records, out))
 }
 
 // The tree of a strain sheet: sheet bytes in, listing bytes out (4(n - 2) of them, low byte first), and 0 or the
@@ -244,5 +183,5 @@ pub extern "C" fn quartree_rebuild_sheet(sheet: &[u8], listing: &mut [u8]) -> u3
     ensures meaning { λ r. ⌜ Gives number-alone (SheetBytesMean (now (sheet .entry)) (length (now (listing .entry)))) r
         (now (listing .entry)) (now (listing .exit)) ⌝ }
 {
-    sheet_trees::answer_number(sheet_trees::listing_bytes_of(sheet, listing))
+    replies::answer_number(sheet_trees::listing_bytes_of(sheet, listing))
 }

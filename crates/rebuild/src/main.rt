@@ -40,7 +40,7 @@ fn main() {
     let answer = sheet_trees::listing_of(&input[..got], &mut listing);
     let Outcome::Done = answer else {
         io::write_all(1, b"refused ");
-        io::print_decimal(1, sheet_trees::answer_number(answer) as u64);
+        io::print_decimal(1, replies::answer_number(answer) as u64);
         io::write_all(1, b"\n");
         return;
     };

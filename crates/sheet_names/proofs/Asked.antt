@@ -21,7 +21,7 @@ use Rattle.sheet_names.specs.declared.NamePlace.{NamePlace}
 use Rattle.sheets.specs.Sheets.{name-start, name, leaves-of, offset-of, longest-sheet}
 use Rattle.sheets.specs.Operations.{kept-sheet-refusal}
 use Rattle.sheet_names.specs.Operations.{name-answer, shown, placed, name-place-answer}
-use Rattle.sheet_names.specs.Steps.{shown-if}
+use Rattle.sheet_names.specs.inner.Shown.{shown-if}
 use Rattle.sheets.proofs.Sizes.{ends-within}
 use Rattle.sheets.proofs.Names.{start-next, name-length}
 use Rattle.sheets.proofs.SheetRefusal.{Accepted, accepted-sheet}

@@ -4,8 +4,8 @@ use mathlib.Core.List.{List, [], _∷_}
 use Prim.Native.Nat.{ℕ}
 use Rattle.base.specs.Lists.{tab, any-in, all-in, find}
 use Rattle.refusals.specs.declared.Refusal.the-variants.{Question, SheetLength}
-use Rattle.refusals.specs.Refusals.{Answer, accepted, refused, judged, answered}
-use Rattle.checks.specs.Sizes.{count-refusal, room-refusal}
+use Rattle.refusals.specs.Refusals.{Answer, accepted, refused, refuse, judged, answered}
+use Rattle.checks.specs.Sizes.{count-refusal-of, room-refusal}
 use Rattle.checks.specs.Questions.{question-refusal}
 use Rattle.sheets.specs.Sheets.{name-at, name-start, name, name-byte, is-name, same, trailer}
 use Rattle.sheets.specs.Operations.{right-ends, sheet-ends-refusal, right-sum, sheet-length-refusal, good-at, repeated}
@@ -21,7 +21,7 @@ asked = name-answer five-sheet 5 10 2 ∷ name-answer five-sheet 5 10 5 ∷ name
 asked-are : asked ≡ accepted (0x63 ∷ []) ∷ refused (Question 0) ∷ refused SheetLength ∷ []
 unfolding name-at name-start name name-byte is-name same trailer right-ends sheet-ends-refusal right-sum
     sheet-length-refusal good-at repeated
-    name-refusal names-end-refusal names-refusal kept-sheet-refusal name-answer judged answered count-refusal
+    name-refusal names-end-refusal names-refusal kept-sheet-refusal name-answer refuse judged answered count-refusal-of
     room-refusal question-refusal tab any-in all-in
     find five-sheet asked
 asked-are = refl

@@ -1,15 +1,15 @@
 // A strain's name: its bytes, and where they stand in the sheet.
+use numbers::index_of_u8;
 use refusals::Outcome;
 use refusals::Refusal;
 use sheets::Sheet;
-use sheets::index_of_u8;
 ghost use mathlib.Core.Path.{_≡_};
 ghost use Prim.Native.Nat.{_+_, _≤_};
 ghost use lib.ListN.{length};
 ghost use Rattle.refusals.specs.Refusals.{outcome};
 ghost use Rattle.sheets.specs.Sheets.{name-start, name};
 ghost use Rattle.sheet_names.specs.Operations.{name-answer, shown, name-place-answer};
-ghost use Rattle.sheet_names.specs.Steps.{shown-if};
+ghost use Rattle.sheet_names.specs.inner.Shown.{shown-if};
 
 // A strain's name as the bytes of the sheet themselves, and whether it is refused: then there are no bytes.
 pub struct Named<'a> {
@@ -88,8 +88,8 @@ pub fn name<'a>(sheet: Sheet<'a>, leaf: usize) -> Named<'a>
 pub fn name_place(sheet: &[u8], leaf: usize) -> NamePlace
     ensures { λ r. ⌜ r ≡ name-place-answer (now (sheet .entry)) leaf ⌝ }
 {
-    let n = sheets::leaf_count_of(sheet);
-    let outcome = judge_name(sheet, n, sheets::offset_of(sheet), leaf);
+    let figures = sheets::figures_of(sheet);
+    let outcome = judge_name(sheet, figures.leaves, figures.offset, leaf);
     let Outcome::Done = outcome else {
         return NamePlace {
             first: 0,

@@ -4,10 +4,11 @@ use mathlib.Core.List.{[], _∷_, _++_}
 use Rattle.base.specs.Numbers.{sum-below}
 use Rattle.base.specs.Lists.{tab, any-in, all-in}
 use Rattle.pair_counts.specs.Pairs.{P}
-use Rattle.refusals.specs.Refusals.{accepted, judged, answered}
-use Rattle.checks.specs.Sizes.{count-refusal, room-refusal}
+use Rattle.refusals.specs.Refusals.{accepted, refuse, judged, answered}
+use Rattle.checks.specs.Sizes.{count-refusal-of, room-refusal}
 use Rattle.packed_tables.specs.Packed.{cells-before, mirrored, table-with}
-use Rattle.sheets.specs.Sheets.{number, name-at, name-start, name, name-byte, is-name, same, cells, trailer, leaves-of}
+use Rattle.byte_numbers.specs.Bytes.{number}
+use Rattle.sheets.specs.Sheets.{name-at, name-start, name, name-byte, is-name, same, cells, trailer, leaves-of}
 use Rattle.sheets.specs.Sheets.{offset-of, cells-of}
 use Rattle.sheets.specs.Operations.{right-ends, sheet-ends-refusal, right-sum, sheet-length-refusal, good-at, repeated}
 use Rattle.sheets.specs.Operations.{name-refusal, names-end-refusal}
@@ -24,6 +25,6 @@ five-table : sheet-table-answer five-sheet 25 ≡ accepted (
 unfolding number name-at name-start name name-byte is-name same cells cells-before mirrored table-with trailer leaves-of
     offset-of cells-of right-ends sheet-ends-refusal right-sum sheet-length-refusal good-at repeated name-refusal
     names-end-refusal names-refusal kept-sheet-refusal
-    sheet-refusal sheet-table-answer judged answered count-refusal room-refusal sum-below tab any-in all-in P
+    sheet-refusal sheet-table-answer refuse judged answered count-refusal-of room-refusal sum-below tab any-in all-in P
     five-sheet
 five-table = refl

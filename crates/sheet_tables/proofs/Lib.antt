@@ -1,4 +1,4 @@
-pub mod Examples
+mod Examples
 pub mod PackedSheet
-pub mod TableRows
-pub mod TableWritten
+mod TableRows
+mod TableWritten

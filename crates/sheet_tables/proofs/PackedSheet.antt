@@ -9,8 +9,9 @@ use Rattle.base.proofs.Lists.{tab-same}
 use Rattle.pair_counts.specs.Pairs.{P}
 use Rattle.pair_counts.proofs.Pairs.{P-double}
 use Rattle.packed_tables.specs.Packed.{packed-cells}
-use Rattle.sheets.specs.Sheets.{number, cell-bytes, cells, leaves-of, offset-of, cells-of}
-use Rattle.sheets.proofs.ByteNumbers.{number-two}
+use Rattle.byte_numbers.specs.Bytes.{number}
+use Rattle.sheets.specs.Sheets.{cell-bytes, cells, leaves-of, offset-of, cells-of}
+use Rattle.byte_numbers.proofs.Bytes.{number-two}
 
 -- n leaves' cells, the first of them at o, that end in the sheet
 module _ (S : List ℕ) (n o : ℕ) (h : o + cell-bytes n ≤ length S) where
@@ -31,17 +32,16 @@ module _ (S : List ℕ) (n o : ℕ) (h : o + cell-bytes n ≤ length S) where
   unfolding packed-cells cells
   same-cells = tab-same (P n) _ _ same
     where
-      same :
-          (k : ℕ) → k < P n
-          → getD bytes (2 * k) 0 + 256 * getD bytes (2 * k + 1) 0 ≡ number (take 2 (drop (o + 2 * k) S))
+      same : (k : ℕ) → k < P n → number (take 2 (drop (2 * k) bytes)) ≡ number (take 2 (drop (o + 2 * k) S))
       same k l =
           let fill = P-double n in
           let next : o + (2 * k + 1) ≡ o + 2 * k + 1 = omega arith in
           rw (
+            number-two bytes (2 * k),
             byte-at (2 * k) (omega arith),
             byte-at (2 * k + 1) (omega arith),
             next,
-            number-two S (o + 2 * k) (omega arith),
+            number-two S (o + 2 * k),
           )
 
 -- those of a sheet, by its trailer's figures

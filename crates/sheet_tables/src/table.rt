@@ -4,7 +4,7 @@ ghost use Prim.Native.Nat.{_*_, _<_, _≤_};
 ghost use lib.ListN.{length};
 ghost use Rattle.base.specs.Lists.{filled};
 ghost use Rattle.packed_tables.specs.Packed.{packed-cells, Packed};
-ghost use Rattle.sheet_tables.specs.Steps.{table-rule, RowWritten};
+ghost use Rattle.sheet_tables.specs.inner.Rows.{table-rule, RowWritten};
 
 // Row i of the table is written after the rows before it.
 fn write_row(n: usize, packed: &[u8], i: usize, out: &mut [u32])

@@ -14,12 +14,13 @@ use Rattle.refusals.specs.declared.Outcome.the-variants.{Done, Refused}
 use Rattle.refusals.specs.Refusals.{Answer, accepted, refused, outcome, written}
 use Rattle.refusals.proofs.Answers.{unless-passed}
 use Rattle.rebuild_answers.proofs.Promises.{rebuilt-is-standard}
-use Rattle.sheets.specs.Sheets.{low-first, leaves-of, cells-of}
+use Rattle.byte_numbers.specs.Bytes.{low-first}
+use Rattle.sheets.specs.Sheets.{leaves-of, cells-of}
 use Rattle.sheets.specs.Operations.{sheet-refusal}
-use Rattle.sheets.proofs.ByteNumbers.{length-low}
+use Rattle.byte_numbers.proofs.Bytes.{length-low}
 use Rattle.packed_tables.specs.Packed.{table-with}
 use Rattle.sheet_trees.specs.Operations.{sheet-tree, in-bytes, sheet-bytes-answer}
-use Rattle.sheet_trees.specs.Steps.{byte-rule}
+use Rattle.sheet_trees.specs.inner.Bytes.{byte-rule}
 use Rattle.sheet_trees.proofs.SheetTree.{accepted-here, other-room, rebuilt-alone}
 
 -- the two bytes of number m, and the bytes of the first m numbers, one by one

@@ -18,19 +18,6 @@ use Rattle.sheets.proofs.SheetRefusal.{ends-refused, count-refused}
 use Rattle.sheet_trees.specs.Operations.{sheet-tree, sheet-listing-answer}
 use Rattle.sheet_trees.proofs.SheetTree.{accepted-here}
 
--- a leaf count that is refused: 13 or 1 arises, whatever the room
-pub count-decides :
-    (S : List ℕ) (due room : ℕ) → (leb 3 (leaves-of S) && leb (leaves-of S) most-leaves) ≡ false
-    → sheet-refusal S 0 0 ≡ sheet-refusal S due room
-unfolding sheet-refusal
-count-decides S due room h =
-    let n = leaves-of S in
-    let o = offset-of S in
-    elim (bool? (right-ends S)) [
-      | inl t ↦ count-refused S n o 0 0 t h ∙ sym (count-refused S n o due room t h)
-      | inr f ↦ ends-refused S n o 0 0 f ∙ sym (ends-refused S n o due room f)
-    ]
-
 -- done: then nothing was refused before, and the leaf count is right
 unless-done : {A : Type 0} (o : Option Refusal) (a : Answer A) → outcome (unless o a) ≡ Done → o ≡ none
 unfolding unless outcome

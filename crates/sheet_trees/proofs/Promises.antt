@@ -19,7 +19,8 @@ use Rattle.refusals.proofs.Meanings.{unless-means, unless-fixed, with-meaning}
 use Rattle.merging.specs.MergeLists.{Pair, after, Finished, subtrees, final-listing}
 use Rattle.merging.specs.Meaning.{OnlyTree, HasTree, HasNoTree}
 use Rattle.merging.proofs.Meaning as meaning
-use Rattle.sheets.specs.Sheets.{low-first, leaves-of, offset-of, cells-of}
+use Rattle.byte_numbers.specs.Bytes.{low-first}
+use Rattle.sheets.specs.Sheets.{leaves-of, offset-of, cells-of}
 use Rattle.sheets.specs.Operations.{sheet-refusal, check-sheet-answer}
 use Rattle.sheets.proofs.Causes.{SheetCauses, sheet-arises}
 use Rattle.packed_tables.specs.Packed.{table-with}
@@ -70,14 +71,14 @@ not-six S due room = sheet-arises (λ r. r ≢ NoTree) S (leaves-of S) (offset-o
     other-number : (r : Refusal) → number-of r ≢ 6 → r ≢ NoTree
     other-number r h e = h (ap number-of e)
 
-    causes : SheetCauses (λ r. r ≢ NoTree) (leaves-of S)
+    causes : SheetCauses (λ r. r ≢ NoTree)
     causes = record {
       ends = other-number _ (omega arith);
       count = other-number _ (omega arith);
       sum = other-number _ (omega arith);
       room = other-number _ (omega arith);
-      name = λ k i l. other-number _ (omega arith);
-      same-name = λ k i l. other-number _ (omega arith);
+      name = λ i. other-number _ (omega arith);
+      same-name = λ i. other-number _ (omega arith);
     }
 
 module _ (S : List ℕ) where

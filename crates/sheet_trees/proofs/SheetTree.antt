@@ -9,9 +9,9 @@ use lib.ListN.{length, take, drop}
 use Rattle.limits.specs.Limits.{IsLeafCount}
 use Rattle.refusals.specs.declared.Refusal.{Refusal}
 use Rattle.refusals.specs.Refusals.{judged}
-use Rattle.refusals.proofs.Answers.{judged-on, judged-none, unless-passed}
+use Rattle.refusals.proofs.Answers.{judged-passes, judged-none, unless-passed}
 use Rattle.checks.specs.Sizes.{count-refusal, room-refusal}
-use Rattle.listings.proofs.ListingRefusal.{room-passes}
+use Rattle.checks.proofs.Sizes.{room-passes}
 use Rattle.table_checks.proofs.TableRefusal.{table-passes}
 use Rattle.packed_tables.specs.Packed.{table-with}
 use Rattle.packed_tables.proofs.PackedIsTable.{sheet-is-table}
@@ -22,10 +22,6 @@ use Rattle.sheets.specs.Operations.{sheet-ends-refusal, sheet-length-refusal, k
 use Rattle.sheets.proofs.SheetRefusal.{Accepted, accepted-sheet}
 use Rattle.sheet_tables.proofs.PackedSheet.{bytes-long, sheet-cells}
 use Rattle.sheet_trees.specs.Operations.{sheet-tree}
-
--- a refusal that does not arise is passed
-passed : (o : Option Refusal) (l : List (Option Refusal)) → o ≡ none → judged (o ∷ l) ≡ judged l
-passed o l h = rw h (judged-on l)
 
 -- An accepted sheet.
 module _ (S : List ℕ) (due room : ℕ) (h : sheet-refusal S due room ≡ none) where
@@ -40,10 +36,10 @@ module _ (S : List ℕ) (due room : ℕ) (h : sheet-refusal S due room ≡ none)
       let a = judged-none (sheet-ends-refusal S) _ h in
       let b = judged-none (count-refusal (leaves-of S)) _ (a .1) in
       let c = judged-none (sheet-length-refusal S (leaves-of S) (offset-of S)) _ (b .1) in
-      passed _ _ (a .0)
-      ∙ passed _ _ (b .0)
-      ∙ passed _ _ (c .0)
-      ∙ room-passes _ d r enough
+      judged-passes _ (a .0)
+      ∙ judged-passes _ (b .0)
+      ∙ judged-passes _ (c .0)
+      ∙ judged-passes _ (room-passes d r enough)
       ∙ judged-none (room-refusal due room) _ (c .1) .1
 
 -- our own rebuild of it

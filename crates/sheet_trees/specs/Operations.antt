@@ -2,11 +2,10 @@
 -- judged.
 use mathlib.Core.List.{List, flatMap}
 use Prim.Native.Nat.{ℕ, _-_, _*_}
-use Rattle.refusals.specs.declared.Outcome.{Outcome}
-use Rattle.refusals.specs.declared.Outcome.the-variants.{Done, Refused}
-use Rattle.refusals.specs.Refusals.{number-of, Answer, accepted, refused, unless}
+use Rattle.refusals.specs.Refusals.{Answer, accepted, refused, unless}
 use Rattle.merging.specs.Rebuilds.{rebuilt}
-use Rattle.sheets.specs.Sheets.{low-first, leaves-of, cells-of}
+use Rattle.byte_numbers.specs.Bytes.{low-first}
+use Rattle.sheets.specs.Sheets.{leaves-of, cells-of}
 use Rattle.sheets.specs.Operations.{sheet-refusal}
 use Rattle.packed_tables.specs.Packed.{table-with}
 
@@ -26,8 +25,3 @@ in-bytes (refused r) = refused r
 -- sheet in, listing out in bytes, and the room in bytes: 13, 1, 14, 3, 15, 16, then 6
 unfoldable pub sheet-bytes-answer : (S : List ℕ) (room : ℕ) → Answer (List ℕ)
 sheet-bytes-answer S room = unless (sheet-refusal S (4 * (leaves-of S - 2)) room) (in-bytes (sheet-tree S))
-
--- the number of an answer as code gives it: 0, or the refusal's
-abbrev pub outcome-number : Outcome → ℕ
-outcome-number Done = 0
-outcome-number (Refused r) = number-of r

@@ -1,22 +1,10 @@
 // The numbers of a listing as bytes, low byte first.
 ghost use mathlib.Core.Path.{_≡_};
-ghost use Prim.Native.Nat.{_*_, _/_, _%_, _<_, _≤_};
+ghost use Prim.Native.Nat.{_*_, _<_, _≤_};
 ghost use lib.ListN.{length};
 ghost use Rattle.base.specs.Lists.{filled};
 ghost use Rattle.limits.specs.Limits.{most-numbers};
-ghost use Rattle.sheet_trees.specs.Steps.{byte-rule};
-
-fn low_byte(v: u16) -> u8
-    ensures { λ r. ⌜ r ≡ v % 256 ⌝ }
-{
-    (v % 256) as u8
-}
-
-fn high_byte(v: u16) -> u8
-    ensures { λ r. ⌜ r ≡ v / 256 % 256 ⌝ }
-{
-    (v / 256) as u8
-}
+ghost use Rattle.sheet_trees.specs.inner.Bytes.{byte-rule};
 
 // Byte k of the numbers.
 fn byte_at(numbers: &[u16; limits::MOST_NUMBERS], k: usize) -> u8
@@ -25,9 +13,9 @@ fn byte_at(numbers: &[u16; limits::MOST_NUMBERS], k: usize) -> u8
 {
     let v = numbers[k / 2];
     if k % 2 == 0 {
-        return low_byte(v);
+        return byte_numbers::low_byte(v);
     }
-    high_byte(v)
+    byte_numbers::high_byte(v)
 }
 
 // Writes so many bytes of the numbers at the front of `out`.

@@ -1,5 +1,6 @@
 // The tree of a strain sheet: sheet in, listing out.
 use refusals::Outcome;
+use sheets::Figures;
 ghost use mathlib.Core.Path.{_≡_};
 ghost use mathlib.Core.Option.{none};
 ghost use Prim.Native.Nat.{_-_, _*_, _≤_};
@@ -8,34 +9,41 @@ ghost use Rattle.refusals.specs.Refusals.{outcome-of, outcome, written};
 ghost use Rattle.refusals.specs.Meanings.{Gives};
 ghost use Rattle.sheets.specs.Sheets.{leaves-of};
 ghost use Rattle.sheets.specs.Operations.{sheet-refusal};
+ghost use Rattle.sheets.specs.inner.Figures.{FiguresOf};
 ghost use Rattle.sheet_trees.specs.Operations.{sheet-tree, sheet-listing-answer, sheet-bytes-answer};
-ghost use Rattle.sheet_trees.specs.Operations.{outcome-number};
 ghost use Rattle.sheet_trees.specs.Meanings.{SheetBytesMean};
 
 mod bytes;
 
-// Judges a sheet, and the room for a listing that takes so many cells a row: 13, 1, 14, 3, 15, 16. Where the leaf count
-// is refused there are no rows: 13 or 1 arises, whatever the room.
-fn judge_rows(sheet: &[u8], cells: usize, room: usize) -> Outcome
-    requires { ⌜ cells ≤ 4 ⌝ }
+// How many rows a listing of n leaves has; none where n is below 2.
+fn rows_of(n: usize) -> usize
+    ensures { λ r. ⌜ r ≡ n - 2 ⌝ }
+{
+    if n < 2 {
+        return 0;
+    }
+    n - 2
+}
+
+// Judges a sheet by its trailer's figures, and the room for a listing that takes so many cells a row: 13, 1, 14, 3, 15,
+// 16.
+fn judge_rows(sheet: &[u8], figures: Figures, cells: usize, room: usize) -> Outcome
+    requires { ⌜ FiguresOf (now sheet) figures × (cells ≤ 4) ⌝ }
     ensures { λ r. ⌜ r ≡ outcome-of (sheet-refusal (now (sheet .entry)) (cells * (leaves-of (now (sheet .entry)) - 2))
         room) ⌝ }
 {
-    let n = sheets::leaf_count_of(sheet);
-    if !checks::leaf_count(n) {
-        return sheets::judge_sheet(sheet, 0, 0);
-    }
-    sheets::judge_sheet(sheet, cells * (n - 2), room)
+    sheets::judge_sheet(sheet, figures, cells * rows_of(figures.leaves), room)
 }
 
 // The tree of a sheet that has been judged, with room for its listing: the rebuild reads the cells where they stand.
-fn tree_of(sheet: &[u8], listing: &mut [u16]) -> Outcome
-    requires { ⌜ sheet-refusal (now sheet) (2 * (leaves-of (now sheet) - 2)) (length (now listing)) ≡ none ⌝ }
+fn tree_of(sheet: &[u8], figures: Figures, listing: &mut [u16]) -> Outcome
+    requires { ⌜ FiguresOf (now sheet) figures
+        × (sheet-refusal (now sheet) (2 * (leaves-of (now sheet) - 2)) (length (now listing)) ≡ none) ⌝ }
     ensures answer { λ r. ⌜ r ≡ outcome (sheet-tree (now (sheet .entry))) ⌝ }
     ensures buffer { λ _. ⌜ now (listing .exit) ≡ written (sheet-tree (now (sheet .entry))) (now (listing .entry)) ⌝ }
 {
-    let n = sheets::leaf_count_of(sheet);
-    let offset = sheets::offset_of(sheet);
+    let n = figures.leaves;
+    let offset = figures.offset;
     let end = offset + n * (n - 1);
     own_rebuild::rebuild_packed(n, &sheet[offset..end], listing)
 }
@@ -47,11 +55,12 @@ pub fn listing_of(sheet: &[u8], listing: &mut [u16]) -> Outcome
     ensures buffer { λ r. ⌜ now (listing .exit)
         ≡ written (sheet-listing-answer (now (sheet .entry)) (length (now (listing .entry)))) (now (listing .entry)) ⌝ }
 {
-    let judged = judge_rows(sheet, 2, listing.len());
+    let figures = sheets::figures_of(sheet);
+    let judged = judge_rows(sheet, figures, 2, listing.len());
     let Outcome::Done = judged else {
         return judged;
     };
-    tree_of(sheet, listing)
+    tree_of(sheet, figures, listing)
 }
 
 // The same as bytes: two for each number of the listing, low byte first.
@@ -62,26 +71,16 @@ pub fn listing_bytes_of(sheet: &[u8], out: &mut [u8]) -> Outcome
     ensures meaning { λ r. ⌜ Gives outcome (SheetBytesMean (now (sheet .entry)) (length (now (out .entry)))) r
         (now (out .entry)) (now (out .exit)) ⌝ }
 {
-    let judged = judge_rows(sheet, 4, out.len());
+    let figures = sheets::figures_of(sheet);
+    let judged = judge_rows(sheet, figures, 4, out.len());
     let Outcome::Done = judged else {
         return judged;
     };
     let mut listing = [0u16; limits::MOST_NUMBERS];
-    let answer = tree_of(sheet, &mut listing);
+    let answer = tree_of(sheet, figures, &mut listing);
     let Outcome::Done = answer else {
         return answer;
     };
-    let n = sheets::leaf_count_of(sheet);
-    bytes::write_bytes(4 * (n - 2), &listing, out);
+    bytes::write_bytes(4 * (figures.leaves - 2), &listing, out);
     answer
-}
-
-// The number of an answer: 0, or the refusal's.
-pub fn answer_number(answer: Outcome) -> u32
-    ensures { λ k. ⌜ k ≡ outcome-number answer ⌝ }
-{
-    let Outcome::Refused(r) = answer else {
-        return 0;
-    };
-    refusals::number(r)
 }

@@ -16,12 +16,14 @@ use Rattle.base.proofs.Bools.{and-both, and-is, is-false}
 use Rattle.base.proofs.Lists.{length-flat, flat-append, flat-more}
 use Rattle.limits.specs.Limits.{most-leaves}
 use Rattle.pair_counts.proofs.Pairs.{P-double}
-use Rattle.sheets.specs.Sheets.{number, low-first, trailer-bytes, trailer, leaves-of, offset-of, mark}
+use Rattle.byte_numbers.specs.Bytes.{number, low-first}
+use Rattle.sheets.specs.Sheets.{trailer-bytes, trailer, leaves-of, offset-of, mark}
 use Rattle.sheets.specs.Sheets.{longest-name, name-at, next-name, name-start, name, is-name, same, cell-bytes}
 use Rattle.sheets.specs.Sheets.{cells}
 use Rattle.sheets.specs.Sheets.{longest-sheet, names-of, cells-of, name-bytes, sheet-of, Writable}
 use Rattle.sheets.specs.Operations.{right-ends, right-sum, good-at, repeated, sheet-refusal}
-use Rattle.sheets.proofs.ByteNumbers.{length-low, number-low, trailer-long}
+use Rattle.byte_numbers.proofs.Bytes.{length-low, number-low}
+use Rattle.sheets.proofs.TrailerFigures.{trailer-long}
 use Rattle.sheets.proofs.Names.{same-is, same-self, good-by, any-tab-none, names-many, names-at}
 use Rattle.sheets.proofs.NameRefusals.{PassedNames, passed-none, passed-more, all-passed}
 use Rattle.sheets.proofs.SheetRefusal.{names-left}

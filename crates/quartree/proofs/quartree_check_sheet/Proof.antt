@@ -1,26 +1,21 @@
--- `quartree::quartree_check_sheet` meets its contract: the reply holds the refusal of the operation that it calls, or
--- the leaf count.
-use native.Mathlib.Omega.{arith}
+-- `quartree::quartree_check_sheet` meets its contract: the reply holds the refusal that is judged, or the leaf count.
+use mathlib.Core.Path.{ap, sym, _∙_}
+use Prim.Native.Nat.{_%_}
 use borrow.Author.Needs.{needs}
-use Rattle.quartree.proofs.Figures.{replied-with}
-use Rattle.quartree.proofs.SheetFigures.{check-sheet-small}
+use Rattle.refusals.proofs.Answers.{outcome-answered}
+use Rattle.sheets.specs.Operations.{check-sheet-answer}
+use Rattle.replies.specs.Replies.{figure-limit}
+use Rattle.replies.proofs.Replies.{replied-with}
 use Rattle.quartree.proofs.quartree_check_sheet.Statement.{statement}
 use Rattle.quartree.proofs.quartree_check_sheet.Tie as tie
 
-leaf-count-of-requires : tie.Need-leaf-count-of-requires
-leaf-count-of-requires c κs = search needs
-
-check-sheet-requires : tie.Need-check-sheet-requires
-check-sheet-requires c κs = search needs
-
-reply-with-requires : tie.Need-reply-with-requires
-reply-with-requires c κs = (omega arith, rw (c .check-sheet .ensures) (check-sheet-small _))
-
 returns : tie.Need-returns
+unfolding check-sheet-answer
 returns c =
-    let count = c .before .before .leaf-count-of .ensures .0 in
-    replied-with _ (c .reply-with .ensures) count (c .before .check-sheet .ensures)
+    let count = ap (λ x. x % figure-limit) (c .before .before .figures-of .ensures .0) in
+    replied-with _ _ _ (c .reply-with .ensures) count (c .before .judge-sheet .ensures ∙ sym (outcome-answered _ _))
 
 pub quartree-check-sheet-spec : {M : Type 1} → statement M
 quartree-check-sheet-spec =
-    tie.close (tie.spec leaf-count-of-requires check-sheet-requires reply-with-requires returns)
+    tie.close
+    (tie.spec (λ c κs. search needs) (λ c κs. search needs) (λ c κs. search needs) returns)

@@ -1,14 +1,14 @@
 -- `quartree::quartree_pairing` meets its contract: four numbers that are lent are a question.
 use native.Mathlib.Omega.{arith}
-use mathlib.Core.Path.{refl, ap, sym, _∙_}
+use mathlib.Core.Path.{ap, sym, _∙_}
 use borrow.Author.Needs.{needs}
 use borrow.Author.Tests.{not-true, not-false}
 use Rattle.limits.specs.Limits.{IsLeafCount}
 use Rattle.checks.proofs.Sizes.{is-leaf-count}
 use Rattle.pairings.specs.Operations.{pairing-answer}
-use Rattle.quartree.specs.Replies.{number-reply}
-use Rattle.quartree.specs.Steps.{paired-reply}
-use Rattle.quartree.proofs.Questions.{is-four, paired-replied, pairing-small, count-refused, length-refused}
+use Rattle.replies.specs.Replies.{number-reply}
+use Rattle.quartree.specs.inner.Questions.{paired-reply}
+use Rattle.quartree.proofs.Questions.{is-four, paired-replied, count-refused, length-refused}
 use Rattle.quartree.proofs.Questions.{asked}
 use Rattle.quartree.proofs.quartree_pairing.Statement.{statement}
 use Rattle.quartree.proofs.quartree_pairing.Tie as tie
@@ -42,7 +42,7 @@ pairing-requires : tie.Need-pairing-requires
 pairing-requires c κs = search needs
 
 paired-reply-requires : tie.Need-paired-reply-requires
-paired-reply-requires c κs = rw (c .pairing .ensures) (pairing-small _ _ _ refl)
+paired-reply-requires c κs = search needs
 
 returns-3 : tie.Need-returns-3
 returns-3 c =

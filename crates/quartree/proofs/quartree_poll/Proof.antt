@@ -1,6 +1,6 @@
 -- `quartree::quartree_poll` meets its contract: a walk of its MIR, by hand. The records are handed on to `polls::poll`,
 -- and the borrow of the lent buffer is given up for good (`gave-slice`); `reply_of` makes the reply of the outcome.
-use mathlib.Core.Path.{_≡_, refl, _∙_, ap}
+use mathlib.Core.Path.{_≡_, refl}
 use mathlib.Core.List.{List, [], _∷_}
 use Prim.Native.Nat.{ℕ, _<_, _^_}
 use lib.ListN.{length}
@@ -52,14 +52,13 @@ use Rattle.polls.proofs.poll as poll
 use Rattle.polls.proofs.poll.Symbol as poll-def
 use Rattle.polls.proofs.poll.Symbol.{name as #polls·poll}
 use Rattle.polls.proofs.poll.Met as poll-thm
-use Rattle.quartree.specs.Replies.{reply}
-use Rattle.quartree.specs.Steps.{SmallFigures, outcome-reply}
-use Rattle.quartree.proofs.Figures.{replied}
-use Rattle.quartree.proofs.PollFigures.{poll-small}
-use Rattle.quartree.proofs.reply_of as reply-of
-use Rattle.quartree.proofs.reply_of.Symbol as reply-of-def
-use Rattle.quartree.proofs.reply_of.Symbol.{name as #quartree·reply-of}
-use Rattle.quartree.proofs.reply_of.Met as reply-of-thm
+use Rattle.replies.specs.Replies.{reply}
+use Rattle.replies.specs.inner.Outcomes.{outcome-reply}
+use Rattle.replies.proofs.Replies.{replied}
+use Rattle.replies.proofs.reply_of as reply-of
+use Rattle.replies.proofs.reply_of.Symbol as reply-of-def
+use Rattle.replies.proofs.reply_of.Symbol.{name as #replies·reply-of}
+use Rattle.replies.proofs.reply_of.Met as reply-of-thm
 use Rattle.quartree.proofs.quartree_poll.Key.{name as #quartree·quartree-poll}
 use Rattle.quartree.proofs.quartree_poll as entry
 use Rattle.quartree.proofs.quartree_poll.Statement as stated
@@ -184,10 +183,10 @@ module _ {M : Type 1} (𝓤 : URA M) (H : Heap 𝓤) (A : Atoms 𝓤) (W : Given
   to-reply x u = ((tt, tt, tt, (x, tt), (u ∷ [], tt)), tt)
 
   asked-reply :
-      (x : Outcome) (u : Val) → SmallFigures x
+      (x : Outcome) (u : Val)
       → ent 𝓤 (sem 𝓤 H A (owns (O.the-row ∷ []) (x, tt) (u ∷ [], tt))) (Reply 𝓤 H A mem run .pre (to-reply x u))
-  asked-reply x u y =
-      qed W (‵ (owns (O.the-row ∷ []) (x, tt) (u ∷ [], tt)) ∷ []) ∵ says ! y $ nothing ! $ frame ! $ done !
+  asked-reply x u =
+      qed W (‵ (owns (O.the-row ∷ []) (x, tt) (u ∷ [], tt)) ∷ []) ∵ nothing ! $ join ! $ frame ! $ done !
 
   abbrev Replied : Outcome → ℕ → Type 0
   Replied x z = z ≡ outcome-reply x
@@ -198,12 +197,9 @@ module _ {M : Type 1} (𝓤 : URA M) (H : Heap 𝓤) (A : Atoms 𝓤) (W : Given
   said-reply x z =
       exE 𝓤 _ (λ ws. snd∗ 𝓤 (sem 𝓤 H A (lasts reply-of.ended tt (x, tt) ws)) (fact 𝓤 (Replied x z)))
 
-  small : (x : Outcome) → Polled x → SmallFigures x
-  small x e = rw e (poll-small n ys (length os))
-
   module _ (C : Calls 𝓤 H) (Λ : Loops 𝓤 H) (fm : FmC 𝓤 H (W .laws) C)
       (known-poll : Triple 𝓤 (C #polls·poll) (Poll 𝓤 H A mem run))
-      (known-reply : Triple 𝓤 (C #quartree·reply-of) (Reply 𝓤 H A mem run)) where
+      (known-reply : Triple 𝓤 (C #replies·reply-of) (Reply 𝓤 H A mem run)) where
     walk :
         ent 𝓤 (onEntry 𝓤 H A entry.signature κs (q, (q′, tt)) a at)
         (WpFn 𝓤 H C Λ (coded ω) (vint w64 n ∷ v ∷ v′ ∷ []) Post)
@@ -260,7 +256,7 @@ module _ {M : Type 1} (𝓤 : URA M) (H : Heap 𝓤) (A : Atoms 𝓤) (W : Given
         -- `reply_of`
         -- [what the outcome owns; the tokens; the last list; true; what rs owns; _6; …; _0; …]
         nothing ! $ move ! (1 ∷ 0 ∷ []) $ fjoin ! $
-        use1 W (raw (Reply 𝓤 H A mem run .pre (to-reply x u))) (asked-reply x u (small x e)) $
+        use1 W (raw (Reply 𝓤 H A mem run .pre (to-reply x u))) (asked-reply x u) $
         calls-at ! fm (Reply 𝓤 H A mem run) known-reply (to-reply x u)
         (and-then ! (load ! (from ! (stop !)) (look ! 9 refl)) (no-more !)) (λ w.
         use1 W
@@ -277,13 +273,13 @@ module _ {M : Type 1} (𝓤 : URA M) (H : Heap 𝓤) (A : Atoms 𝓤) (W : Given
         move ! (11 ∷ 12 ∷ []) $ free1 ! $ move ! (9 ∷ 10 ∷ []) $ free1 ! $ move ! (7 ∷ 8 ∷ []) $ free1 ! $
         move ! (5 ∷ 6 ∷ []) $ free1 ! $ free0 ! $
         keep ! (1 ∷ 4 ∷ 2 ∷ 0 ∷ []) $
-        by ! (exits z w (ws .1 .1 .0) (g ∙ ap outcome-reply e ∙ replied _) e′ l)))))))))))))))))))
+        by ! (exits z w (ws .1 .1 .0) (replied _ g e) e′ l)))))))))))))))))))
 
 module _ {M : Type 1} (𝓤 : URA M) (H : Heap 𝓤) (A : Atoms 𝓤) (W : Given 𝓤 H A) (mem : Memory → SProp 𝓤)
     (run : Routine → Fun 𝓤) where
   quartree-poll-walks :
       (C : Calls 𝓤 H) (Λ : Loops 𝓤 H) → FmC 𝓤 H (W .laws) C → Triple 𝓤 (C #polls·poll) (Poll 𝓤 H A mem run)
-      → Triple 𝓤 (C #quartree·reply-of) (Reply 𝓤 H A mem run)
+      → Triple 𝓤 (C #replies·reply-of) (Reply 𝓤 H A mem run)
       → Walks 𝓤 H A entry.ended stayed (WpFn 𝓤 H C Λ code.function) (entry.clauses 𝓤 H A mem run)
   unfolding coded
   quartree-poll-walks C Λ fm known-poll known-reply =
@@ -300,7 +296,7 @@ module _ {M : Type 1} (𝓤 : URA M) (H : Heap 𝓤) (A : Atoms 𝓤) (W : Given
 quartree-poll-meets :
     {M : Type 1} (𝓤 : URA M) (H : Heap 𝓤) (A : Atoms 𝓤) (W : Given 𝓤 H A) (mem : Memory → SProp 𝓤)
     (run : Routine → Fun 𝓤) (𝓣 : Tables 𝓤 H) → Triple 𝓤 (𝓣 .C #polls·poll) (Poll 𝓤 H A mem run)
-    → Triple 𝓤 (𝓣 .C #quartree·reply-of) (Reply 𝓤 H A mem run)
+    → Triple 𝓤 (𝓣 .C #replies·reply-of) (Reply 𝓤 H A mem run)
     → Meets 𝓤 H A entry.signature (WpFn 𝓤 H (𝓣 .C) (𝓣 .Λ) code.function) (entry.spec 𝓤 H A mem run)
 quartree-poll-meets 𝓤 H A W mem run 𝓣 known-poll known-reply =
     walk-meets 𝓤 H A entry.ended stayed W (
@@ -322,5 +318,5 @@ quartree-poll-spec 𝓤 H 𝓜 𝓖 𝓡 =
     (quartree-poll-meets 𝓤 H (𝓖 .A) (givenOf 𝓤 H 𝓜 𝓖) (𝓜 .mem) (𝓡 .run) (tablesOf 𝓤 H 𝓜 (tables 𝓤 H 𝓜 𝓡 code.env))
     (cited 𝓤 H (Poll 𝓤 H (𝓖 .A) (𝓜 .mem) (𝓡 .run)) 𝓜 𝓡 code.env #polls·poll poll-def.routine code.calls-polls·poll
     (poll-thm.met 𝓤 H 𝓜 𝓖 𝓡))
-    (cited 𝓤 H (Reply 𝓤 H (𝓖 .A) (𝓜 .mem) (𝓡 .run)) 𝓜 𝓡 code.env #quartree·reply-of reply-of-def.routine
-    code.calls-quartree·reply-of (reply-of-thm.met 𝓤 H 𝓜 𝓖 𝓡)))
+    (cited 𝓤 H (Reply 𝓤 H (𝓖 .A) (𝓜 .mem) (𝓡 .run)) 𝓜 𝓡 code.env #replies·reply-of reply-of-def.routine
+    code.calls-replies·reply-of (reply-of-thm.met 𝓤 H 𝓜 𝓖 𝓡)))

@@ -1,24 +1,15 @@
 -- `quartree::quartree_standardise` meets its contract: reply and buffer are those of the operation that it calls.
-use mathlib.Core.Path.{ap, _∙_}
 use borrow.Author.Needs.{needs}
-use Rattle.quartree.specs.Steps.{outcome-reply}
-use Rattle.quartree.proofs.Figures.{standardise-small, replied}
+use Rattle.replies.proofs.Replies.{replied}
 use Rattle.quartree.proofs.quartree_standardise.Statement.{statement}
 use Rattle.quartree.proofs.quartree_standardise.Tie as tie
-
-standardise-requires : tie.Need-standardise-requires
-standardise-requires c κs = search needs
-
-reply-of-requires : tie.Need-reply-of-requires
-reply-of-requires c κs = rw (c .before .before .standardise .ensures .0) (standardise-small _ _ _)
-
-same-length : tie.Need-same-length
-same-length c = search needs
 
 returns : tie.Need-returns
 returns c =
     let done = c .before .before .before .standardise .ensures in
-    (c .reply-of .ensures ∙ ap outcome-reply (done .0) ∙ replied _, done .1)
+    (replied _ (c .reply-of .ensures) (done .0), done .1)
 
 pub quartree-standardise-spec : {M : Type 1} → statement M
-quartree-standardise-spec = tie.close (tie.spec standardise-requires reply-of-requires same-length returns)
+quartree-standardise-spec =
+    tie.close
+    (tie.spec (λ c κs. search needs) (λ c κs. search needs) (λ c. search needs) returns)

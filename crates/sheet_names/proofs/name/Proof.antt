@@ -54,7 +54,7 @@ use Rattle.refusals.proofs.Outcome as S
 use Rattle.refusals.proofs.Outcome.Laws as S′
 use Rattle.sheets.specs.Sheets as spec
 use Rattle.sheet_names.specs.Operations.{name-answer, shown}
-use Rattle.sheet_names.specs.Steps.{shown-if}
+use Rattle.sheet_names.specs.inner.Shown.{shown-if}
 use Rattle.sheets.specs.declared.Sheet.{Sheet}
 use Rattle.sheet_names.specs.declared.Named.{Named}
 use Rattle.sheet_names.proofs.Asked.{asked-shown, asked-within}

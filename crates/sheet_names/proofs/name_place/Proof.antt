@@ -11,35 +11,19 @@ use Rattle.sheet_names.proofs.Asked.{asked-within, place-none, place-fo
 use Rattle.sheet_names.proofs.name_place.Statement.{statement}
 use Rattle.sheet_names.proofs.name_place.Tie as tie
 
-leaf-count-of-requires : tie.Need-leaf-count-of-requires
-leaf-count-of-requires c κs = search needs
-
-offset-of-requires : tie.Need-offset-of-requires
-offset-of-requires c κs = search needs
-
-judge-name-requires : tie.Need-judge-name-requires
-judge-name-requires c κs = search needs
-
-enum-told : tie.Need-enum-told
-enum-told c = search needs
-
-enum-told-2 : tie.Need-enum-told-2
-enum-told-2 c = search needs
-
 returns : tie.Need-returns
 returns c =
     let judge = c .before .before in
-    let offset = judge .before in
-    let n-is = offset .before .leaf-count-of .ensures .0 in
-    place-none _ _ n-is (offset .offset-of .ensures) (judge .judge-name .ensures) (c .enum-told2 .given .1)
+    let figures = judge .before .figures-of .ensures in
+    place-none _ _ (figures .0) (figures .1) (judge .judge-name .ensures) (c .enum-told2 .given .1)
 
 -- the name that is asked for ends within the sheet
 ends :
     (c : tie.After-enum-told)
-    → (let a = c .before .before .before .before .before .before .args in
+    → (let a = c .before .before .before .before .before .args in
     next-name (a .sheet .now) (name-start (a .sheet .now) (a .leaf)) ≤ length (a .sheet .now))
 ends c =
-    let a = c .before .before .before .before .before .before .args in
+    let a = c .before .before .before .before .before .args in
     let done = sym (c .before .before .judge-name .ensures) ∙ c .enum-told .given .1 in
     omega (arith, asked-within _ _ _ _ done, start-next (a .sheet .now) (a .leaf) refl)
 
@@ -52,30 +36,25 @@ add-t6 c = omega (arith, ends (c .before), c .start-of .ensures)
 shared-slice-read-index-of-u8 : tie.Need-shared-slice-read-index-of-u8
 shared-slice-read-index-of-u8 c = omega (arith, ends (c .before .before), c .before .start-of .ensures)
 
-index-of-u8-requires : tie.Need-index-of-u8-requires
-index-of-u8-requires c κs = search needs
-
 returns-2 : tie.Need-returns-2
 returns-2 c =
     let at = c .before .before in
     let judge = at .before .before .before in
-    let offset = judge .before in
-    let n-is = offset .before .leaf-count-of .ensures .0 in
-    place-found _ _ n-is (offset .offset-of .ensures) (judge .judge-name .ensures) (at .before .enum-told .given .1)
+    let figures = judge .before .figures-of .ensures in
+    place-found _ _ (figures .0) (figures .1) (judge .judge-name .ensures) (at .before .enum-told .given .1)
     (at .start-of .ensures) (c .index-of-u8 .ensures .0)
 
 pub name-place-spec : {M : Type 1} → statement M
 name-place-spec =
     tie.close
     (tie.spec
-    leaf-count-of-requires
-    offset-of-requires
-    judge-name-requires
-    enum-told
-    enum-told-2
+    (λ c κs. search needs)
+    (λ c κs. search needs)
+    (λ c. search needs)
+    (λ c. search needs)
     returns
     start-of-requires
     add-t6
     shared-slice-read-index-of-u8
-    index-of-u8-requires
+    (λ c κs. search needs)
     returns-2)

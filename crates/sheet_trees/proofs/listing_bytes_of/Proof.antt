@@ -2,7 +2,7 @@
 -- then the listing stands in a local array, and its bytes are written.
 use mathlib.Core.Path.{_≡_, sym, _∙_}
 use mathlib.Core.Option.{none}
-use Prim.Native.Nat.{_-_, _*_}
+use Prim.Native.Nat.{_-_, _*_, _≤_}
 use native.Mathlib.Omega.{arith}
 use borrow.Author.Needs.{needs}
 use lib.ListN.{length}
@@ -18,15 +18,6 @@ use Rattle.sheet_trees.proofs.Promises.{sheet-bytes-gives}
 use Rattle.sheet_trees.proofs.listing_bytes_of.Statement.{statement}
 use Rattle.sheet_trees.proofs.listing_bytes_of.Tie as tie
 
-judge-rows-requires : tie.Need-judge-rows-requires
-judge-rows-requires c κs = search needs
-
-enum-told : tie.Need-enum-told
-enum-told c = search needs
-
-enum-told-2 : tie.Need-enum-told-2
-enum-told-2 c = search needs
-
 returns : tie.Need-returns
 unfolding sheet-bytes-answer
 returns c =
@@ -36,22 +27,14 @@ returns c =
 -- `judge_rows` found nothing to refuse
 none-arises :
     (c : tie.After-enum-told)
-    → (let a = c .before .before .before .before .before .args in
+    → (let a = c .before .before .before .before .before .before .args in
     let S = a .sheet .now in
     sheet-refusal S (4 * (leaves-of S - 2)) (length (a .out .now)) ≡ none)
 none-arises c = done-none _ (sym (c .before .before .judge-rows .ensures) ∙ c .enum-told .given .1)
 
-slice-aggregate-tree-of : tie.Need-slice-aggregate-tree-of
-slice-aggregate-tree-of c = search needs
-
 tree-of-requires : tie.Need-tree-of-requires
-tree-of-requires c κs = fits _ _ (none-arises (c .before))
-
-enum-told-3 : tie.Need-enum-told-3
-enum-told-3 c = search needs
-
-enum-told-4 : tie.Need-enum-told-4
-enum-told-4 c = search needs
+tree-of-requires c κs =
+    (c .before .before .before .before .figures-of .ensures, fits _ _ (none-arises (c .before)))
 
 returns-2 : tie.Need-returns-2
 returns-2 c =
@@ -62,60 +45,57 @@ returns-2 c =
       bytes-refused _ _ (none-arises (made .before .before)) _ _ (sym answer ∙ c .enum-told4 .given .1),
     )
 
-leaf-count-of-requires : tie.Need-leaf-count-of-requires
-leaf-count-of-requires c κs = search needs
-
--- the leaf count is right
-count : (c : tie.After-leaf-count-of) → IsLeafCount (c .leaf-count-of .result)
-count c =
-    let none = none-arises (c .before .before .before .before .before .before) in
-    rw (c .leaf-count-of .ensures .0) (accepted-here _ _ _ none .count)
+-- what was accepted, by the figures that the code has
+accepted :
+    (c : tie.After-enum-told)
+    → (let judge = c .before .before in
+    let n = judge .before .figures-of .result .leaves in
+    IsLeafCount n × (4 * (n - 2) ≤ length (judge .before .before .before .before .args .out .now)))
+accepted c =
+    let a = accepted-here _ _ _ (none-arises c) in
+    rw (c .before .before .before .figures-of .ensures .0) (a .count, a .room-enough)
 
 sub-write-bytes : tie.Need-sub-write-bytes
-sub-write-bytes c = omega (arith, count c)
+sub-write-bytes c = omega (arith, accepted (c .before .before .before .before .before .before) .0)
 
 mul-write-bytes : tie.Need-mul-write-bytes
-mul-write-bytes c = search needs
+mul-write-bytes c = omega (arith, accepted (c .before .before .before .before .before .before) .0)
 
 write-bytes-requires : tie.Need-write-bytes-requires
 write-bytes-requires c κs =
-    let counted = c .before .before in
-    let none = none-arises (counted .before .before .before .before .before .before) in
-    let room = accepted-here _ _ _ none .room-enough in
-    (omega (arith, count counted), rw (counted .leaf-count-of .ensures .0) room)
-
-same-length : tie.Need-same-length
-same-length c = search needs
+    let a = accepted (c .before .before .before .before .before .before .before .before) in
+    (omega (arith, a .0), a .1)
 
 returns-3 : tie.Need-returns-3
 returns-3 c =
-    let counted = c .before .before .before .before .before in
-    let told = counted .before in
+    let put = c .before .before in
+    let told = put .before .before .before .before in
     let made = told .before .before .before in
+    let passed = made .before .before in
     let answer = made .tree-of .ensures .0 in
-    let put = rw (counted .leaf-count-of .ensures .0, made .tree-of .ensures .1)
-    at (c .before .before .write-bytes .ensures) in
+    let bytes = rw (passed .before .before .before .figures-of .ensures .0, made .tree-of .ensures .1)
+    at (put .write-bytes .ensures) in
     sheet-bytes-gives _ _ outcome (
-      answer ∙ bytes-answer _ _ (none-arises (made .before .before)),
-      put ∙ bytes-written _ _ (none-arises (made .before .before)) _ _ (sym answer ∙ told .enum-told3 .given .1),
+      answer ∙ bytes-answer _ _ (none-arises passed),
+      bytes ∙ bytes-written _ _ (none-arises passed) _ _ (sym answer ∙ told .enum-told3 .given .1),
     )
 
 pub listing-bytes-of-spec : {M : Type 1} → statement M
 listing-bytes-of-spec =
     tie.close
     (tie.spec
-    judge-rows-requires
-    enum-told
-    enum-told-2
+    (λ c κs. search needs)
+    (λ c κs. search needs)
+    (λ c. search needs)
+    (λ c. search needs)
     returns
-    slice-aggregate-tree-of
+    (λ c. search needs)
     tree-of-requires
-    enum-told-3
-    enum-told-4
+    (λ c. search needs)
+    (λ c. search needs)
     returns-2
-    leaf-count-of-requires
     sub-write-bytes
     mul-write-bytes
     write-bytes-requires
-    same-length
+    (λ c. search needs)
     returns-3)

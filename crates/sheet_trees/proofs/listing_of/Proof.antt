@@ -12,15 +12,6 @@ use Rattle.sheet_trees.specs.Operations.{sheet-listing-answer}
 use Rattle.sheet_trees.proofs.listing_of.Statement.{statement}
 use Rattle.sheet_trees.proofs.listing_of.Tie as tie
 
-judge-rows-requires : tie.Need-judge-rows-requires
-judge-rows-requires c κs = search needs
-
-enum-told : tie.Need-enum-told
-enum-told c = search needs
-
-enum-told-2 : tie.Need-enum-told-2
-enum-told-2 c = search needs
-
 returns : tie.Need-returns
 unfolding sheet-listing-answer
 returns c = unless-told _ _ _ _ _ (c .before .before .judge-rows .ensures) (c .enum-told2 .given .1)
@@ -28,16 +19,13 @@ returns c = unless-told _ _ _ _ _ (c .before .before .judge-rows .ensures) (c .e
 -- `judge_rows` found nothing to refuse
 none-arises :
     (c : tie.After-enum-told)
-    → (let a = c .before .before .before .before .before .args in
+    → (let a = c .before .before .before .before .before .before .args in
     let S = a .sheet .now in
     sheet-refusal S (2 * (leaves-of S - 2)) (length (a .listing .now)) ≡ none)
 none-arises c = done-none _ (sym (c .before .before .judge-rows .ensures) ∙ c .enum-told .given .1)
 
 tree-of-requires : tie.Need-tree-of-requires
-tree-of-requires c κs = none-arises (c .before)
-
-same-length : tie.Need-same-length
-same-length c = search needs
+tree-of-requires c κs = (c .before .before .before .before .figures-of .ensures, none-arises (c .before))
 
 returns-2 : tie.Need-returns-2
 unfolding sheet-listing-answer
@@ -49,10 +37,11 @@ pub listing-of-spec : {M : Type 1} → statement M
 listing-of-spec =
     tie.close
     (tie.spec
-    judge-rows-requires
-    enum-told
-    enum-told-2
+    (λ c κs. search needs)
+    (λ c κs. search needs)
+    (λ c. search needs)
+    (λ c. search needs)
     returns
     tree-of-requires
-    same-length
+    (λ c. search needs)
     returns-2)

@@ -9,68 +9,44 @@ use Rattle.sheet_trees.proofs.SheetTree.{accepted-here, rebuilt-in-plac
 use Rattle.sheet_trees.proofs.tree_of.Statement.{statement}
 use Rattle.sheet_trees.proofs.tree_of.Tie as tie
 
-leaf-count-of-requires : tie.Need-leaf-count-of-requires
-leaf-count-of-requires c κs = search needs
-
-offset-of-requires : tie.Need-offset-of-requires
-offset-of-requires c κs = search needs
-
--- the sheet as it was accepted, in the figures that the code has
+-- the sheet as it was accepted, by the figures that the code has
 accepted :
-    (c : tie.After-offset-of)
-    → (let a = c .before .before .before .before .args in
-    let n = c .before .leaf-count-of .result in
-    Accepted (a .sheet .now) n (c .offset-of .result) (2 * (n - 2)) (length (a .listing .now)))
-accepted c =
-    rw (c .before .leaf-count-of .ensures .0, c .offset-of .ensures)
-    (accepted-here _ _ _ (c .before .before .before .before .pre))
+    (c : tie.Start)
+    → (let a = c .args in
+    let f = a .figures in
+    Accepted (a .sheet .now) (f .leaves) (f .offset) (2 * (f .leaves - 2)) (length (a .listing .now)))
+accepted c = rw (c .pre .0 .0, c .pre .0 .1) (accepted-here _ _ _ (c .pre .1))
 
 sub-end : tie.Need-sub-end
-sub-end c = omega (arith, accepted c .count)
+sub-end c = omega (arith, accepted (c .before .before) .count)
 
 mul-end : tie.Need-mul-end
-mul-end c = omega (arith, accepted c .sum)
+mul-end c = omega (arith, accepted (c .before .before) .sum)
 
 add-end : tie.Need-add-end
-add-end c = omega (arith, accepted c .sum)
-
-sub-rebuild-packed : tie.Need-sub-rebuild-packed
-sub-rebuild-packed c = search needs
-
-part-rebuild-packed-start : tie.Need-part-rebuild-packed-start
-part-rebuild-packed-start c = search needs
+add-end c = omega (arith, accepted (c .before .before) .sum)
 
 part-rebuild-packed-end : tie.Need-part-rebuild-packed-end
-part-rebuild-packed-end c = omega (arith, accepted c .sum)
-
-rebuild-packed-requires : tie.Need-rebuild-packed-requires
-rebuild-packed-requires c κs = search needs
-
-same-length : tie.Need-same-length
-same-length c = search needs
+part-rebuild-packed-end c = omega (arith, accepted (c .before .before) .sum)
 
 returns : tie.Need-returns
 returns c =
     let put = c .before .before in
-    let placed = put .before .before .before in
-    let s = placed .before .before .before .before in
-    let n-is = placed .before .leaf-count-of .ensures .0 in
-    let tree = rebuilt-in-place (s .args .sheet .now) (length (s .args .listing .now)) n-is (placed .offset-of .ensures)
-    (s .pre) in
+    let s = put .before .before .before .before .before in
+    let tree = rebuilt-in-place (s .args .sheet .now) (length (s .args .listing .now)) (s .pre .0 .0) (s .pre .0 .1)
+    (s .pre .1) in
     rw tree at (put .rebuild-packed .ensures)
 
 pub tree-of-spec : {M : Type 1} → statement M
 tree-of-spec =
     tie.close
     (tie.spec
-    leaf-count-of-requires
-    offset-of-requires
     sub-end
     mul-end
     add-end
-    sub-rebuild-packed
-    part-rebuild-packed-start
+    (λ c. search needs)
+    (λ c. search needs)
     part-rebuild-packed-end
-    rebuild-packed-requires
-    same-length
+    (λ c κs. search needs)
+    (λ c. search needs)
     returns)

@@ -13,7 +13,7 @@ use Rattle.base.proofs.Lists.{row-of, column-of}
 use Rattle.base.proofs.Filling.{length-filled}
 use Rattle.packed_tables.specs.Packed.{mirrored, packed-cells}
 use Rattle.packed_tables.proofs.Sizes.{row-read}
-use Rattle.sheet_tables.specs.Steps.{table-rule}
+use Rattle.sheet_tables.specs.inner.Rows.{table-rule}
 use Rattle.sheet_tables.proofs.TableRows.{filled-on}
 use Rattle.sheet_tables.proofs.table.write_row.Statement.{statement}
 use Rattle.sheet_tables.proofs.table.write_row.Tie as tie

@@ -8,7 +8,7 @@ use lib.ListN.{length}
 use Rattle.base.specs.Lists.{filled}
 use Rattle.base.proofs.Filling.{filled-none}
 use Rattle.packed_tables.specs.Packed.{packed-cells}
-use Rattle.sheet_tables.specs.Steps.{table-rule}
+use Rattle.sheet_tables.specs.inner.Rows.{table-rule}
 use Rattle.sheet_tables.proofs.table.write_table.Statement.{statement}
 use Rattle.sheet_tables.proofs.table.write_table.Tie as tie
 

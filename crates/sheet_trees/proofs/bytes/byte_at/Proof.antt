@@ -4,8 +4,8 @@ use mathlib.Core.Logic.{_≢_}
 use Prim.Native.Nat.{_%_}
 use native.Mathlib.Omega.{arith}
 use borrow.Author.Needs.{needs}
-use Rattle.sheets.specs.Sheets.{low-first}
-use Rattle.sheet_trees.specs.Steps.{byte-rule}
+use Rattle.byte_numbers.specs.Bytes.{low-first}
+use Rattle.sheet_trees.specs.inner.Bytes.{byte-rule}
 use Rattle.sheet_trees.proofs.bytes.byte_at.Statement.{statement}
 use Rattle.sheet_trees.proofs.bytes.byte_at.Tie as tie
 

@@ -6,7 +6,7 @@ use borrow.Author.Needs.{needs}
 use lib.ListN.{length}
 use Rattle.base.specs.Lists.{filled}
 use Rattle.base.proofs.Filling.{filled-none, filled-more, length-filled}
-use Rattle.sheet_trees.specs.Steps.{byte-rule}
+use Rattle.sheet_trees.specs.inner.Bytes.{byte-rule}
 use Rattle.sheet_trees.proofs.bytes.write_bytes.Statement.{statement}
 use Rattle.sheet_trees.proofs.bytes.write_bytes.Tie as tie
 
