@@ -15,9 +15,9 @@ use Rattle.refusals.specs.declared.Refusal.{Refusal}
 use Rattle.refusals.specs.Refusals.{accepted, answered, outcome}
 use Rattle.refusals.proofs.Answers.{judged-alone, judged-none, answered-accepted}
 use Rattle.checks.specs.Questions.{question-refusal}
-use Rattle.sheets.specs.Sheets.{leaves-of, offset-of, name-start, name, longest-name, name-byte, is-name}
-use Rattle.sheets.specs.Operations.{kept-sheet-refusal, sheet-refusal}
-use Rattle.sheets.proofs.Accepted.{names-good}
+use Rattle.sheet_rules.specs.Sheets.{leaves-of, offset-of, name-start, name, longest-name, name-byte, is-name}
+use Rattle.sheet_rules.specs.Operations.{kept-sheet-refusal, sheet-refusal}
+use Rattle.sheet_rules.proofs.Accepted.{names-good}
 use Rattle.sheet_names.specs.declared.NamePlace.{NamePlace}
 use Rattle.sheet_names.specs.Operations.{name-answer, placed, name-place-answer}
 use Rattle.sheet_names.proofs.Asked.{leaf-below, asked-few}

@@ -6,7 +6,7 @@ use mathlib.Core.Logic.{_↔_}
 use mathlib.Core.List.{List}
 use Prim.Native.Nat.{ℕ}
 use Rattle.merging.specs.Meaning.{HasTree, HasNoTree}
-use Rattle.sheets.specs.Sheets.{leaves-of, cells-of}
+use Rattle.sheet_rules.specs.Sheets.{leaves-of, cells-of}
 use Rattle.packed_tables.specs.Packed.{table-with}
 use Rattle.sheet_trees.specs.Operations.{sheet-bytes-answer}
 use Rattle.sheet_trees.proofs.Promises.{SheetPasses, sheet-accepted-exactly-when, sheet-refused-exactly-when}

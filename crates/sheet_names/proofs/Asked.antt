@@ -18,14 +18,14 @@ use Rattle.refusals.specs.Refusals.{Answer, accepted, refused, judged, answered
 use Rattle.refusals.proofs.Answers.{judged-alone, judged-none, outcome-answered, done-none}
 use Rattle.checks.specs.Questions.{question-refusal}
 use Rattle.sheet_names.specs.declared.NamePlace.{NamePlace}
-use Rattle.sheets.specs.Sheets.{name-start, name, leaves-of, offset-of, longest-sheet}
-use Rattle.sheets.specs.Operations.{kept-sheet-refusal}
+use Rattle.sheet_rules.specs.Sheets.{name-start, name, leaves-of, offset-of, longest-sheet}
+use Rattle.sheet_rules.specs.Operations.{kept-sheet-refusal}
 use Rattle.sheet_names.specs.Operations.{name-answer, shown, placed, name-place-answer}
 use Rattle.sheet_names.specs.inner.Shown.{shown-if}
-use Rattle.sheets.proofs.Sizes.{ends-within}
-use Rattle.sheets.proofs.Names.{start-next, name-length}
-use Rattle.sheets.proofs.SheetRefusal.{Accepted, accepted-sheet}
-use Rattle.sheets.proofs.Accepted.{name-ends}
+use Rattle.sheet_rules.proofs.Sizes.{ends-within}
+use Rattle.sheet_rules.proofs.Names.{start-next, name-length}
+use Rattle.sheet_rules.proofs.SheetRefusal.{Accepted, accepted-sheet}
+use Rattle.sheet_rules.proofs.Accepted.{name-ends}
 
 -- 9 of a question of one leaf
 leaf-high : (n leaf : ℕ) → n ≤ leaf → question-refusal n (leaf ∷ []) ≡ some (Question 0)

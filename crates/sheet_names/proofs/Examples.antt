@@ -7,11 +7,11 @@ use Rattle.refusals.specs.declared.Refusal.the-variants.{Question, SheetLength}
 use Rattle.refusals.specs.Refusals.{Answer, accepted, refused, refuse, judged, answered}
 use Rattle.checks.specs.Sizes.{count-refusal-of, room-refusal}
 use Rattle.checks.specs.Questions.{question-refusal}
-use Rattle.sheets.specs.Sheets.{name-at, name-start, name, name-byte, is-name, same, trailer}
-use Rattle.sheets.specs.Operations.{right-ends, sheet-ends-refusal, right-sum, sheet-length-refusal, good-at, repeated}
-use Rattle.sheets.specs.Operations.{name-refusal, names-end-refusal}
-use Rattle.sheets.specs.Operations.{names-refusal, kept-sheet-refusal}
-use Rattle.sheets.proofs.Examples.{five-sheet}
+use Rattle.sheet_rules.specs.Sheets.{name-at, name-start, name, name-byte, is-name, same, trailer}
+use Rattle.sheet_rules.specs.Operations.{right-ends, sheet-ends-refusal, right-sum, sheet-length-refusal, good-at, repeated}
+use Rattle.sheet_rules.specs.Operations.{name-refusal, names-end-refusal}
+use Rattle.sheet_rules.specs.Operations.{names-refusal, kept-sheet-refusal}
+use Rattle.sheet_rules.proofs.Examples.{five-sheet}
 use Rattle.sheet_names.specs.Operations.{name-answer}
 
 -- leaf 2, a leaf that is not there, and figures that are not the sheet's

@@ -5,8 +5,8 @@ use lib.ListN.{length}
 use Rattle.refusals.specs.declared.Outcome.the-variants.{Done, Refused}
 use Rattle.refusals.specs.Refusals.{Answer, accepted, refused, judged, answered}
 use Rattle.checks.specs.Questions.{question-refusal}
-use Rattle.sheets.specs.Sheets.{leaves-of, offset-of, name-start, name}
-use Rattle.sheets.specs.Operations.{kept-sheet-refusal}
+use Rattle.sheet_rules.specs.Sheets.{leaves-of, offset-of, name-start, name}
+use Rattle.sheet_rules.specs.Operations.{kept-sheet-refusal}
 use Rattle.sheet_names.specs.declared.NamePlace.{NamePlace}
 
 -- the name of a leaf, of a sheet kept with its figures: 13, 1, 14, 15, 16, and 9 with 0 for a leaf ≥ n

@@ -7,7 +7,7 @@ ghost use mathlib.Core.Path.{_≡_};
 ghost use Prim.Native.Nat.{_+_, _≤_};
 ghost use lib.ListN.{length};
 ghost use Rattle.refusals.specs.Refusals.{outcome};
-ghost use Rattle.sheets.specs.Sheets.{name-start, name};
+ghost use Rattle.sheet_rules.specs.Sheets.{name-start, name};
 ghost use Rattle.sheet_names.specs.Operations.{name-answer, shown, name-place-answer};
 ghost use Rattle.sheet_names.specs.inner.Shown.{shown-if};
 

@@ -8,12 +8,12 @@ use Rattle.refusals.specs.Refusals.{accepted, refuse, judged, answered}
 use Rattle.checks.specs.Sizes.{count-refusal-of, room-refusal}
 use Rattle.packed_tables.specs.Packed.{cells-before, mirrored, table-with}
 use Rattle.byte_numbers.specs.Bytes.{number}
-use Rattle.sheets.specs.Sheets.{name-at, name-start, name, name-byte, is-name, same, cells, trailer, leaves-of}
-use Rattle.sheets.specs.Sheets.{offset-of, cells-of}
-use Rattle.sheets.specs.Operations.{right-ends, sheet-ends-refusal, right-sum, sheet-length-refusal, good-at, repeated}
-use Rattle.sheets.specs.Operations.{name-refusal, names-end-refusal}
-use Rattle.sheets.specs.Operations.{names-refusal, kept-sheet-refusal, sheet-refusal}
-use Rattle.sheets.proofs.Examples.{five-sheet}
+use Rattle.sheet_rules.specs.Sheets.{name-at, name-start, name, name-byte, is-name, same, cells, trailer, leaves-of}
+use Rattle.sheet_rules.specs.Sheets.{offset-of, cells-of}
+use Rattle.sheet_rules.specs.Operations.{right-ends, sheet-ends-refusal, right-sum, sheet-length-refusal, good-at, repeated}
+use Rattle.sheet_rules.specs.Operations.{name-refusal, names-end-refusal}
+use Rattle.sheet_rules.specs.Operations.{names-refusal, kept-sheet-refusal, sheet-refusal}
+use Rattle.sheet_rules.proofs.Examples.{five-sheet}
 use Rattle.sheet_tables.specs.Operations.{sheet-table-answer}
 
 five-table : sheet-table-answer five-sheet 25 ≡ accepted (

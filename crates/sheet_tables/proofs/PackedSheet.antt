@@ -10,7 +10,7 @@ use Rattle.pair_counts.specs.Pairs.{P}
 use Rattle.pair_counts.proofs.Pairs.{P-double}
 use Rattle.packed_tables.specs.Packed.{packed-cells}
 use Rattle.byte_numbers.specs.Bytes.{number}
-use Rattle.sheets.specs.Sheets.{cell-bytes, cells, leaves-of, offset-of, cells-of}
+use Rattle.sheet_rules.specs.Sheets.{cell-bytes, cells, leaves-of, offset-of, cells-of}
 use Rattle.byte_numbers.proofs.Bytes.{number-two}
 
 -- n leaves' cells, the first of them at o, that end in the sheet

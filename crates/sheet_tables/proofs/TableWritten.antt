@@ -6,7 +6,7 @@ use lib.ListN.{length, drop}
 use Rattle.base.specs.Lists.{filled}
 use Rattle.base.proofs.Lists.{length-tab}
 use Rattle.packed_tables.specs.Packed.{table-with}
-use Rattle.sheets.specs.Sheets.{leaves-of, cells-of}
+use Rattle.sheet_rules.specs.Sheets.{leaves-of, cells-of}
 use Rattle.sheet_tables.specs.inner.Rows.{table-rule}
 
 pub table-written :

@@ -3,8 +3,8 @@ use mathlib.Core.List.{List}
 use Prim.Native.Nat.{ℕ, _*_}
 use Rattle.refusals.specs.Refusals.{Answer, answered}
 use Rattle.packed_tables.specs.Packed.{table-with}
-use Rattle.sheets.specs.Sheets.{leaves-of, cells-of}
-use Rattle.sheets.specs.Operations.{sheet-refusal}
+use Rattle.sheet_rules.specs.Sheets.{leaves-of, cells-of}
+use Rattle.sheet_rules.specs.Operations.{sheet-refusal}
 
 -- the table of a sheet: 13, 1, 14, 3, 15, 16
 unfoldable pub sheet-table-answer : (S : List ℕ) (room : ℕ) → Answer (List ℕ)

@@ -15,8 +15,8 @@ use Rattle.refusals.specs.Refusals.{Answer, accepted, refused, outcome, written
 use Rattle.refusals.proofs.Answers.{unless-passed}
 use Rattle.rebuild_answers.proofs.Promises.{rebuilt-is-standard}
 use Rattle.byte_numbers.specs.Bytes.{low-first}
-use Rattle.sheets.specs.Sheets.{leaves-of, cells-of}
-use Rattle.sheets.specs.Operations.{sheet-refusal}
+use Rattle.sheet_rules.specs.Sheets.{leaves-of, cells-of}
+use Rattle.sheet_rules.specs.Operations.{sheet-refusal}
 use Rattle.byte_numbers.proofs.Bytes.{length-low}
 use Rattle.packed_tables.specs.Packed.{table-with}
 use Rattle.sheet_trees.specs.Operations.{sheet-tree, in-bytes, sheet-bytes-answer}

@@ -12,9 +12,9 @@ use Rattle.limits.specs.Limits.{most-leaves, IsLeafCount}
 use Rattle.refusals.specs.declared.Refusal.{Refusal}
 use Rattle.refusals.specs.declared.Outcome.the-variants.{Done}
 use Rattle.refusals.specs.Refusals.{Answer, unless, outcome}
-use Rattle.sheets.specs.Sheets.{leaves-of, offset-of}
-use Rattle.sheets.specs.Operations.{right-ends, sheet-refusal}
-use Rattle.sheets.proofs.SheetRefusal.{ends-refused, count-refused}
+use Rattle.sheet_rules.specs.Sheets.{leaves-of, offset-of}
+use Rattle.sheet_rules.specs.Operations.{right-ends, sheet-refusal}
+use Rattle.sheet_rules.proofs.SheetRefusal.{ends-refused, count-refused}
 use Rattle.sheet_trees.specs.Operations.{sheet-tree, sheet-listing-answer}
 use Rattle.sheet_trees.proofs.SheetTree.{accepted-here}
 

@@ -20,9 +20,9 @@ use Rattle.merging.specs.MergeLists.{Pair, after, Finished, subtrees, final-lis
 use Rattle.merging.specs.Meaning.{OnlyTree, HasTree, HasNoTree}
 use Rattle.merging.proofs.Meaning as meaning
 use Rattle.byte_numbers.specs.Bytes.{low-first}
-use Rattle.sheets.specs.Sheets.{leaves-of, offset-of, cells-of}
-use Rattle.sheets.specs.Operations.{sheet-refusal, check-sheet-answer}
-use Rattle.sheets.proofs.Causes.{SheetCauses, sheet-arises}
+use Rattle.sheet_rules.specs.Sheets.{leaves-of, offset-of, cells-of}
+use Rattle.sheet_rules.specs.Operations.{sheet-refusal, check-sheet-answer}
+use Rattle.sheet_rules.proofs.Causes.{SheetCauses, sheet-arises}
 use Rattle.packed_tables.specs.Packed.{table-with}
 use Rattle.packed_tables.proofs.PackedIsTable.{sheet-is-table}
 use Rattle.sheet_trees.specs.Operations.{sheet-tree, in-bytes, sheet-bytes-answer}

@@ -17,9 +17,9 @@ use Rattle.packed_tables.specs.Packed.{table-with}
 use Rattle.packed_tables.proofs.PackedIsTable.{sheet-is-table}
 use Rattle.rebuild_answers.specs.Operations.{rebuild-answer, packed-answer}
 use Rattle.rebuild_answers.proofs.RebuildRefusals.{none-refused}
-use Rattle.sheets.specs.Sheets.{cell-bytes, leaves-of, offset-of, cells-of}
-use Rattle.sheets.specs.Operations.{sheet-ends-refusal, sheet-length-refusal, kept-sheet-refusal, sheet-refusal}
-use Rattle.sheets.proofs.SheetRefusal.{Accepted, accepted-sheet}
+use Rattle.sheet_rules.specs.Sheets.{cell-bytes, leaves-of, offset-of, cells-of}
+use Rattle.sheet_rules.specs.Operations.{sheet-ends-refusal, sheet-length-refusal, kept-sheet-refusal, sheet-refusal}
+use Rattle.sheet_rules.proofs.SheetRefusal.{Accepted, accepted-sheet}
 use Rattle.sheet_tables.proofs.PackedSheet.{bytes-long, sheet-cells}
 use Rattle.sheet_trees.specs.Operations.{sheet-tree}
 

@@ -6,8 +6,8 @@ use Prim.Native.Nat.{ℕ, _-_, _*_}
 use Rattle.refusals.specs.Refusals.{Answer}
 use Rattle.refusals.specs.Meanings.{MeansUnless}
 use Rattle.merging.specs.Meaning.{TableMeans}
-use Rattle.sheets.specs.Sheets.{leaves-of, cells-of}
-use Rattle.sheets.specs.Operations.{sheet-refusal}
+use Rattle.sheet_rules.specs.Sheets.{leaves-of, cells-of}
+use Rattle.sheet_rules.specs.Operations.{sheet-refusal}
 use Rattle.packed_tables.specs.Packed.{table-with}
 use Rattle.sheet_trees.specs.Operations.{in-bytes}
 

@@ -5,8 +5,8 @@ use Prim.Native.Nat.{ℕ, _-_, _*_}
 use Rattle.refusals.specs.Refusals.{Answer, accepted, refused, unless}
 use Rattle.merging.specs.Rebuilds.{rebuilt}
 use Rattle.byte_numbers.specs.Bytes.{low-first}
-use Rattle.sheets.specs.Sheets.{leaves-of, cells-of}
-use Rattle.sheets.specs.Operations.{sheet-refusal}
+use Rattle.sheet_rules.specs.Sheets.{leaves-of, cells-of}
+use Rattle.sheet_rules.specs.Operations.{sheet-refusal}
 use Rattle.packed_tables.specs.Packed.{table-with}
 
 -- the tree that has the table of the sheet S, if one has: its standard listing, or 6

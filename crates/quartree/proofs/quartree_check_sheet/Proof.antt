@@ -3,7 +3,7 @@ use mathlib.Core.Path.{ap, sym, _∙_}
 use Prim.Native.Nat.{_%_}
 use borrow.Author.Needs.{needs}
 use Rattle.refusals.proofs.Answers.{outcome-answered}
-use Rattle.sheets.specs.Operations.{check-sheet-answer}
+use Rattle.sheet_rules.specs.Operations.{check-sheet-answer}
 use Rattle.replies.specs.Replies.{figure-limit}
 use Rattle.replies.proofs.Replies.{replied-with}
 use Rattle.quartree.proofs.quartree_check_sheet.Statement.{statement}

@@ -4,7 +4,7 @@ use mathlib.Core.Option.{none}
 use native.Mathlib.Omega.{arith}
 use borrow.Author.Needs.{needs}
 use Rattle.refusals.proofs.Answers.{done-none, refused-some}
-use Rattle.sheets.specs.Operations.{kept-sheet-refusal}
+use Rattle.sheet_rules.specs.Operations.{kept-sheet-refusal}
 use Rattle.sheet_names.proofs.Asked.{sheet-refused, leaf-refused, name-given}
 use Rattle.sheet_names.proofs.judge_name.Statement.{statement}
 use Rattle.sheet_names.proofs.judge_name.Tie as tie

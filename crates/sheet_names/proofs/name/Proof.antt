@@ -52,7 +52,7 @@ use Rattle.refusals.specs.declared.Outcome.the-variants.{Done}
 use Rattle.refusals.specs.Refusals.{Answer, outcome}
 use Rattle.refusals.proofs.Outcome as S
 use Rattle.refusals.proofs.Outcome.Laws as S′
-use Rattle.sheets.specs.Sheets as spec
+use Rattle.sheet_rules.specs.Sheets as spec
 use Rattle.sheet_names.specs.Operations.{name-answer, shown}
 use Rattle.sheet_names.specs.inner.Shown.{shown-if}
 use Rattle.sheets.specs.declared.Sheet.{Sheet}

@@ -5,8 +5,8 @@ use Prim.Native.Nat.{_≤_}
 use native.Mathlib.Omega.{arith}
 use borrow.Author.Needs.{needs}
 use lib.ListN.{length}
-use Rattle.sheets.specs.Sheets.{next-name, name-start}
-use Rattle.sheets.proofs.Names.{start-next}
+use Rattle.sheet_rules.specs.Sheets.{next-name, name-start}
+use Rattle.sheet_rules.proofs.Names.{start-next}
 use Rattle.sheet_names.proofs.Asked.{asked-within, place-none, place-found}
 use Rattle.sheet_names.proofs.name_place.Statement.{statement}
 use Rattle.sheet_names.proofs.name_place.Tie as tie

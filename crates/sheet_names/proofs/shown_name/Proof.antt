@@ -4,8 +4,8 @@ use Prim.Native.Nat.{_+_, _-_, _≤_}
 use native.Mathlib.Omega.{arith}
 use borrow.Author.Needs.{needs}
 use lib.ListN.{length, getD, take, drop}
-use Rattle.sheets.specs.Sheets.{name-at, name-start, name}
-use Rattle.sheets.proofs.Names.{start-next, start-name}
+use Rattle.sheet_rules.specs.Sheets.{name-at, name-start, name}
+use Rattle.sheet_rules.proofs.Names.{start-next, start-name}
 use Rattle.sheet_names.proofs.Asked.{shown-none, shown-whole}
 use Rattle.sheet_names.proofs.shown_name.Statement.{statement}
 use Rattle.sheet_names.proofs.shown_name.Tie as tie

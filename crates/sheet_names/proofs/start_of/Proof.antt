@@ -4,8 +4,8 @@ use Prim.Native.Nat.{_-_, _≤_}
 use native.Mathlib.Omega.{arith}
 use borrow.Author.Needs.{needs}
 use lib.ListN.{length}
-use Rattle.sheets.specs.Sheets.{next-name, name-start}
-use Rattle.sheets.proofs.Names.{start-next, next-before}
+use Rattle.sheet_rules.specs.Sheets.{next-name, name-start}
+use Rattle.sheet_rules.proofs.Names.{start-next, next-before}
 use Rattle.sheet_names.proofs.start_of.Statement.{statement}
 use Rattle.sheet_names.proofs.start_of.Tie as tie
 

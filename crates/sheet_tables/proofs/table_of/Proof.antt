@@ -7,8 +7,8 @@ use native.Mathlib.Omega.{arith}
 use borrow.Author.Needs.{needs}
 use lib.ListN.{length}
 use Rattle.refusals.proofs.Answers.{call-passed, call-refused, call-done}
-use Rattle.sheets.specs.Operations.{sheet-refusal}
-use Rattle.sheets.proofs.SheetRefusal.{Accepted, accepted-sheet}
+use Rattle.sheet_rules.specs.Operations.{sheet-refusal}
+use Rattle.sheet_rules.proofs.SheetRefusal.{Accepted, accepted-sheet}
 use Rattle.sheet_tables.specs.Operations.{sheet-table-answer}
 use Rattle.sheet_tables.proofs.PackedSheet.{bytes-long, sheet-cells}
 use Rattle.sheet_tables.proofs.TableWritten.{table-written}

@@ -9,8 +9,8 @@ use lib.ListN.{length}
 use Rattle.limits.specs.Limits.{IsLeafCount}
 use Rattle.refusals.specs.Refusals.{outcome}
 use Rattle.refusals.proofs.Answers.{done-none, unless-told}
-use Rattle.sheets.specs.Sheets.{leaves-of}
-use Rattle.sheets.specs.Operations.{sheet-refusal}
+use Rattle.sheet_rules.specs.Sheets.{leaves-of}
+use Rattle.sheet_rules.specs.Operations.{sheet-refusal}
 use Rattle.sheet_trees.specs.Operations.{sheet-bytes-answer}
 use Rattle.sheet_trees.proofs.SheetTree.{accepted-here}
 use Rattle.sheet_trees.proofs.InBytes.{fits, bytes-answer, bytes-refused, bytes-written}

@@ -6,8 +6,8 @@ use Prim.Native.Nat.{_-_, _*_}
 use borrow.Author.Needs.{needs}
 use lib.ListN.{length}
 use Rattle.refusals.proofs.Answers.{done-none, unless-told, unless-none}
-use Rattle.sheets.specs.Sheets.{leaves-of}
-use Rattle.sheets.specs.Operations.{sheet-refusal}
+use Rattle.sheet_rules.specs.Sheets.{leaves-of}
+use Rattle.sheet_rules.specs.Operations.{sheet-refusal}
 use Rattle.sheet_trees.specs.Operations.{sheet-listing-answer}
 use Rattle.sheet_trees.proofs.listing_of.Statement.{statement}
 use Rattle.sheet_trees.proofs.listing_of.Tie as tie

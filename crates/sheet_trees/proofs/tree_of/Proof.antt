@@ -4,7 +4,7 @@ use Prim.Native.Nat.{_-_, _*_}
 use native.Mathlib.Omega.{arith}
 use borrow.Author.Needs.{needs}
 use lib.ListN.{length}
-use Rattle.sheets.proofs.SheetRefusal.{Accepted}
+use Rattle.sheet_rules.proofs.SheetRefusal.{Accepted}
 use Rattle.sheet_trees.proofs.SheetTree.{accepted-here, rebuilt-in-place}
 use Rattle.sheet_trees.proofs.tree_of.Statement.{statement}
 use Rattle.sheet_trees.proofs.tree_of.Tie as tie

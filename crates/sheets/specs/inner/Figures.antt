@@ -3,7 +3,7 @@ use mathlib.Core.Path.{_≡_}
 use mathlib.Core.List.{List}
 use Prim.Native.Nat.{ℕ, _<_}
 use Rattle.sheets.specs.declared.Figures.{Figures}
-use Rattle.sheets.specs.Sheets.{leaves-of, offset-of}
+use Rattle.sheet_rules.specs.Sheets.{leaves-of, offset-of}
 
 -- those that the trailer of S says
 abbrev pub FiguresOf : List ℕ → Figures → Type 0

@@ -1,0 +1,1 @@
+// The strain sheet: definitions in specs/, laws in proofs/, and no code.
