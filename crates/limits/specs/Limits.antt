@@ -63,3 +63,7 @@ most-of Poll = most-polled
 
 abbrev pub IsCountOf : Kind → ℕ → Type 0
 IsCountOf kind n = (fewest-of kind ≤ n) × (n ≤ most-of kind)
+
+-- the largest scale of a table: a poll's cells are sixths
+abbrev pub most-scale : ℕ
+most-scale = 6

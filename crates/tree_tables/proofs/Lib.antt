@@ -1,9 +1,4 @@
-pub mod Children
-pub mod LeafOrders
-pub mod Placing
-pub mod Planned
-pub mod LeastDepths
-pub mod RowsFilled
-pub mod Signed
-pub mod TableAnswers
+mod RowsFilled
+mod Signed
+mod TableAnswers
 pub mod GapLaws

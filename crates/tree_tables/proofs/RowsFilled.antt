@@ -8,12 +8,13 @@ use lib.ListN.{length, set, drop, length-append, length-drop}
 use Rattle.base.specs.Lists.{tab, filled}
 use Rattle.base.proofs.Lists.{length-tab, place}
 use Rattle.base.proofs.Filling.{filled-none, filled-more}
+use Rattle.limits.specs.Limits.{most-cells}
 use Rattle.limits.proofs.TablePlaces.{place-small}
-use Rattle.tree_tables.specs.Orders.{most-sum, TableRowFits}
+use Rattle.tree_tables.specs.inner.Rows.{TableRowFits}
 
 pub cell-place :
     {n i base room : ℕ} {aboves tops : List ℕ} → TableRowFits n i base aboves tops room → (j : ℕ) → j < n
-    → (i * n + j < most-sum) × (i * n + j < room)
+    → (i * n + j < most-cells) × (i * n + j < room)
 cell-place {n} {i} fit j l = (
   place-small n i j (fit .few) (fit .row) l,
   omega (arith, place n i j (fit .row) l, fit .enough),

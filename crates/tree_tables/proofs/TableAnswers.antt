@@ -1,62 +1,79 @@
--- The answers of `table` and `gap`: of `gap`, the leaf count is refused, the number of cells, the listing, or the cells
--- decide; and what is written where nothing is refused.
-use mathlib.Core.Path.{_≡_, sym, _∙_}
-use mathlib.Core.Logic.{_≢_}
-use mathlib.Core.Bool.{false, _&&_}
-use mathlib.Core.List.{List, [], _∷_, _++_}
-use mathlib.Core.Option.{none, some}
-use Prim.Native.Nat.{ℕ, _*_}
+-- A table and a listing as they are judged for the gap, one go after the other; and what holds where nothing is
+-- refused.
+use mathlib.Core.Path.{_≡_, refl, ap, sym, _∙_}
+use mathlib.Core.List.{List, [], _∷_}
+use mathlib.Core.Option.{Option, none, some}
+use Prim.Native.Nat.{ℕ, _*_, _≤_}
 use native.Mathlib.Omega.{arith}
-use lib.Dec.{leb}
-use lib.IntN.{ℤ}
-use lib.ListN.{length, drop}
-use Rattle.base.proofs.Lists.{length-tab}
-use Rattle.limits.specs.Limits.{most-leaves, IsLeafCount}
+use lib.ListN.{length}
+use Rattle.limits.specs.declared.Kind.the-variants.{Counts}
+use Rattle.limits.specs.Limits.{IsLeafCount}
 use Rattle.refusals.specs.declared.Refusal.{Refusal}
-use Rattle.refusals.specs.declared.Refusal.the-variants.{LeafCount as Count, InputLength}
-use Rattle.refusals.specs.Refusals.{judged, written}
-use Rattle.refusals.proofs.Answers.{judged-here, judged-on, judged-alone, written-done}
-use Rattle.trees.specs.Listings.{tree-of}
-use Rattle.trees.specs.Tables.{table-of, cells-refusal}
+use Rattle.refusals.specs.declared.Outcome.{Outcome}
+use Rattle.refusals.specs.declared.Outcome.the-variants.{Done, Refused}
+use Rattle.refusals.specs.Refusals.{judged, outcome-of}
+use Rattle.refusals.proofs.Answers.{judged-passes, judged-none, go-stops, go-passes}
+use Rattle.trees.specs.Listings.{KeepsRules}
+use Rattle.trees.specs.Tables.{cells-refusal}
+use Rattle.checks.specs.Sizes.{count-refusal, length-refusal, input-refusal}
+use Rattle.checks.proofs.Sizes.{input-right}
 use Rattle.listings.specs.Operations.{listing-refusal}
-use Rattle.listings.proofs.ListingRefusal.{count-stops, count-passes, length-stops, length-passes}
+use Rattle.listings.proofs.ListingRefusal.{accepted-listing}
 use Rattle.table_checks.specs.Operations.{table-refusal}
 use Rattle.table_checks.proofs.TableRefusal.{cells-left}
-use Rattle.tree_tables.specs.Operations.{table-answer, gaps, gap-refusal, gap-answer}
+use Rattle.tree_tables.specs.Operations.{gap-refusal}
+
+-- two refusals judged in a go of their own
+joined :
+    (a b : Option Refusal) (l : List (Option Refusal)) → judged (a ∷ b ∷ l) ≡ judged (judged (a ∷ b ∷ []) ∷ l)
+unfolding judged
+joined none none l = refl
+joined none (some r) l = refl
+joined (some r) b l = refl
 
 module _ (n : ℕ) (t l : List ℕ) (room : ℕ) where
-  pub count-refused : (leb 3 n && leb n most-leaves) ≡ false → gap-refusal n t l room ≡ some Count
-  unfolding gap-refusal
-  count-refused h = count-stops _ n h
+  abbrev sizes : Option Refusal
+  sizes = input-refusal Counts n (n * n) (length t)
 
-  module _ (c : IsLeafCount n) where
-    pub cells-refused : length t ≢ n * n → gap-refusal n t l room ≡ some InputLength
-    unfolding gap-refusal
-    cells-refused h = count-passes _ n c ∙ length-stops _ (n * n) (length t) h
+  abbrev listed : Option Refusal
+  listed = listing-refusal n l (n * n) room
 
-    module _ (e : length t ≡ n * n) where
-      sizes-pass : gap-refusal n t l room ≡ judged (listing-refusal n l (n * n) room ∷ cells-refusal n t ∷ [])
-      unfolding gap-refusal
-      sizes-pass = count-passes _ n c ∙ length-passes _ (n * n) (length t) e
+  in-goes : gap-refusal n t l room ≡ judged (sizes ∷ listed ∷ cells-refusal n t ∷ [])
+  unfolding gap-refusal input-refusal
+  in-goes = joined (count-refusal n) (length-refusal (n * n) (length t)) (listed ∷ cells-refusal n t ∷ [])
 
-      pub listing-refused : (r : Refusal) → listing-refusal n l (n * n) room ≡ some r → gap-refusal n t l room ≡ some r
-      listing-refused r h = sizes-pass ∙ rw h (judged-here r _)
+  pub sizes-stop :
+      {q : Outcome} {r : Refusal} → q ≡ outcome-of sizes → q ≡ Refused r → q ≡ outcome-of (gap-refusal n t l room)
+  sizes-stop told h = go-stops sizes told _ h ∙ ap outcome-of (sym in-goes)
 
-      -- of what is judged of a table alone only 4 and 5 are left to arise
-      pub table-decides : listing-refusal n l (n * n) room ≡ none → gap-refusal n t l room ≡ table-refusal n t 0 0
-      table-decides fine =
-          sizes-pass
-          ∙ rw fine (judged-on _ ∙ judged-alone (cells-refusal n t))
-          ∙ sym (cells-left n t 0 0 c e (omega arith))
+  module _ (fine : sizes ≡ none) where
+    rest : gap-refusal n t l room ≡ judged (listed ∷ cells-refusal n t ∷ [])
+    rest = in-goes ∙ judged-passes _ fine
 
-pub table-written :
-    (n : ℕ) (l out : List ℕ) → listing-refusal n l (n * n) (length out) ≡ none
-    → written (table-answer n l (length out)) out ≡ table-of n (tree-of n l) ++ drop (n * n) out
-unfolding table-answer table-of
-table-written n l out h = written-done _ _ out h ∙ rw (length-tab (n * n))
+    pub listing-stops :
+        {q : Outcome} {r : Refusal} → q ≡ outcome-of listed → q ≡ Refused r → q ≡ outcome-of (gap-refusal n t l room)
+    listing-stops told h = go-stops listed told _ h ∙ ap outcome-of (sym rest)
 
-pub gap-written :
-    (n : ℕ) (t l : List ℕ) (out : List ℤ) → gap-refusal n t l (length out) ≡ none
-    → written (gap-answer n t l (length out)) out ≡ gaps n t (tree-of n l) ++ drop (n * n) out
-unfolding gap-answer gaps
-gap-written n t l out h = written-done _ _ out h ∙ rw (length-tab (n * n))
+    -- of what is judged of a table alone only 4 and 5 are left to arise
+    pub cells-decide :
+        {q r : Outcome} → q ≡ outcome-of listed → q ≡ Done → r ≡ outcome-of (table-refusal n t 0 0)
+        → r ≡ outcome-of (gap-refusal n t l room)
+    cells-decide told h e =
+        let right = input-right Counts n (n * n) (length t) fine in
+        let left = e ∙ ap outcome-of (cells-left n t 0 0 (right .0) (right .1) (omega arith)) in
+        go-passes listed told (cells-refusal n t) h left ∙ ap outcome-of (sym rest)
+
+  -- what is not refused
+  pub record Accepted : Type 0 where
+    pub count : IsLeafCount n
+    pub cells : length t ≡ n * n
+    pub keeps : KeepsRules n l
+    pub room-enough : n * n ≤ room
+
+  pub accepted-both : gap-refusal n t l room ≡ none → Accepted
+  accepted-both h =
+      let a = judged-none sizes _ (sym in-goes ∙ h) in
+      let b = judged-none listed _ (a .1) in
+      let right = input-right Counts n (n * n) (length t) (a .0) in
+      let w = accepted-listing n l (n * n) room (b .0) in
+      record { count = right .0; cells = right .1; keeps = w .keeps; room-enough = w .room-enough }

@@ -19,9 +19,9 @@ use Rattle.listings.specs.Operations.{listing-refusal}
 unfoldable pub table-answer : (n : ℕ) (l : List ℕ) (room : ℕ) → Answer (List ℕ)
 table-answer n l room = answered (listing-refusal n l (n * n) room) (table-of n (tree-of n l))
 
--- the gap at each cell, row by row: the table's cell less the tree's, a signed number
-unfoldable pub gaps : ℕ → List ℕ → Tree → List ℤ
-gaps n t T = tab (n * n) (λ k. pos (getD t k 0) -ℤ pos (quartets n T (k / n) (k % n)))
+-- the gap at each cell, row by row: the table's cell less the tree's, a signed number; s is the table's scale
+unfoldable pub gaps : (n s : ℕ) → List ℕ → Tree → List ℤ
+gaps n s t T = tab (n * n) (λ k. pos (getD t k 0) -ℤ pos (s * quartets n T (k / n) (k % n)))
 
 -- a table and a listing, and room for a gap at each cell: 1, 2, 3, 7, 8, then 4, 5
 unfoldable pub gap-refusal : (n : ℕ) (t l : List ℕ) (room : ℕ) → Option Refusal
@@ -29,6 +29,6 @@ gap-refusal n t l room =
     judged (count-refusal n ∷ length-refusal (n * n) (length t) ∷ listing-refusal n l (n * n) room
     ∷ cells-refusal n t ∷ [])
 
--- the gap between a table and the tree that a listing stands for
+-- the gap between a table and the tree that a listing stands for, at scale 1: the cells are counts
 unfoldable pub gap-answer : (n : ℕ) (t l : List ℕ) (room : ℕ) → Answer (List ℤ)
-gap-answer n t l room = answered (gap-refusal n t l room) (gaps n t (tree-of n l))
+gap-answer n t l room = answered (gap-refusal n t l room) (gaps n 1 t (tree-of n l))

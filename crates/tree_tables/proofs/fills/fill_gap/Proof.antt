@@ -10,55 +10,69 @@ use Rattle.base.specs.Lists.{filled}
 use Rattle.limits.specs.Limits.{most-leaves}
 use Rattle.trees.specs.Listings.{tree-of}
 use Rattle.trees.specs.Quartets.{quartets}
+use Rattle.least_depths.proofs.RowCounts.{row-asked, cell-is, row-found}
 use Rattle.tree_tables.specs.Operations.{gaps}
 use Rattle.tree_tables.proofs.RowsFilled.{rows-none, rows-room, rows-more, rows-all}
-use Rattle.tree_tables.proofs.Planned.{row-asked, cell-is, row-fits}
 use Rattle.tree_tables.proofs.fills.fill_gap.Statement.{statement}
 use Rattle.tree_tables.proofs.fills.fill_gap.Tie as tie
 
 -- the gaps, one after the other
-abbrev gap-at : ℕ → List ℕ → List ℕ → ℕ → ℤ
-gap-at n t l k = pos (getD t k 0) -ℤ pos (quartets n (tree-of n l) (k / n) (k % n))
+abbrev gap-at : (n scale : ℕ) → List ℕ → List ℕ → ℕ → ℤ
+gap-at n scale t l k = pos (getD t k 0) -ℤ pos (scale * quartets n (tree-of n l) (k / n) (k % n))
 
 abbrev Inv-loop : tie.InvT-loop
-Inv-loop n cells listing out₀ places aboves order depths tops₀ i₀ out tops i =
-    (i ≤ n) × (length tops ≡ most-leaves) × (out ≡ filled (i * n) (gap-at n cells listing) out₀)
+Inv-loop n scale cells listing out₀ plan tops₀ i₀ out tops i =
+    (i ≤ n) × (length tops ≡ most-leaves) × (out ≡ filled (i * n) (gap-at n scale cells listing) out₀)
 
 abbrev μ-loop : tie.MeasureT-loop
-μ-loop n cells listing out₀ places aboves order depths tops₀ i₀ out tops i = n - i
+μ-loop n scale cells listing out₀ plan tops₀ i₀ out tops i = n - i
 
-plan-requires : tie.Need-plan-requires Inv-loop μ-loop
-plan-requires c κs =
-    let p = c .before .before .before .before .before .before .pre in
-    (p .0, p .2, refl, refl, refl, refl)
+abbrev f : tie.Start Inv-loop μ-loop → ℕ → ℤ
+f s = gap-at (s .args .n) (s .args .scale) (s .args .cells .now) (s .args .listing .now)
+
+leaf-order-requires : tie.Need-leaf-order-requires Inv-loop μ-loop
+leaf-order-requires c κs = let p = c .before .before .pre in (p .0, p .3)
 
 loop-holds : tie.Need-loop-holds Inv-loop μ-loop
-loop-holds c =
-    let s = c .before .before .before .before .before .before .before in
-    (omega arith, refl, rows-none (gap-at (s .args .n) (s .args .cells .now) (s .args .listing .now)) _ _)
+loop-holds c = let s = c .before .before .before in (omega arith, refl, rows-none (f s) _ _)
+
+mul-base : tie.Need-mul-base Inv-loop μ-loop
+mul-base c = search needs
+
+element-copy-out-base : tie.Need-element-copy-out-base Inv-loop μ-loop
+element-copy-out-base c = search needs
+
+mul-p : tie.Need-mul-p Inv-loop μ-loop
+mul-p c = search needs
+
+element-copy-out-p : tie.Need-element-copy-out-p Inv-loop μ-loop
+element-copy-out-p c = search needs
 
 find-row-requires : tie.Need-find-row-requires Inv-loop μ-loop
 find-row-requires c κs =
-    let i = c .before .before .before .before .before .before .loop in
-    let made = c .before .before .before .before .before .before .before in
-    let p = made .before .before .before .before .before .before .before .pre in
-    row-asked _ _ (p .0) (p .2) (made .plan .ensures) (i .tops) (omega arith) (i .inv .1)
+    let i = c .before .before .before .before .before .before .before .loop in
+    let made = c .before .before .before .before .before .before .before .before in
+    let p = made .before .before .before .pre in
+    row-asked _ _ (p .0) (p .3) (made .leaf-order .ensures) (i .tops) (omega arith) (i .inv .1)
 
 subtract-row-requires : tie.Need-subtract-row-requires Inv-loop μ-loop
 subtract-row-requires c κs =
-    let found = c .before .before .before .find-row .ensures in
-    let tested = c .before .before .before .before .before .before .before .before .before in
+    let found = c .before .before .before .before .find-row .ensures in
+    let tested = c .before .before .before .before .before .before .before .before .before .before .before in
     let i = tested .before .loop in
     let made = tested .before .before in
-    let s = made .before .before .before .before .before .before .before in
-    let p = s .pre in
-    let f = gap-at (s .args .n) (s .args .cells .now) (s .args .listing .now) in
-    let long = rows-room f _ (s .args .n) (i .i) (i .inv .0) (p .3) (i .inv .2) in
-    let fits =
-    row-fits _ _ (p .0) (p .2) (made .plan .ensures) (tested .loop-test .taken) (found .0) (found .1)
-    (length (i .out))
-    (omega (arith, p .3, long)) in
-    (fits, p .1)
+    let s = made .before .before .before in
+    let long = rows-room (f s) _ (s .args .n) (i .i) (i .inv .0) (s .pre .4) (i .inv .2) in (
+      record {
+        few = s .pre .0 .1;
+        row = tested .loop-test .taken;
+        enough = omega (arith, s .pre .4, long);
+        found = row-found _ _ (s .pre .0) (s .pre .3) (made .leaf-order .ensures) (tested .loop-test .taken)
+            refl found;
+      },
+      s .pre .1,
+      s .pre .2,
+    )
 
 add-i : tie.Need-add-i Inv-loop μ-loop
 add-i c = search needs
@@ -68,32 +82,29 @@ loop-less c = search needs
 
 loop-again : tie.Need-loop-again Inv-loop μ-loop
 loop-again c =
-    let found = c .before .before .before .before .before .find-row .ensures in
-    let written = c .before .subtract-row .ensures in
-    let tested = c .before .before .before .before .before .before .before .before .before .before .before in
+    let put = c .before in
+    let found = put .before .before .before .before .before .find-row .ensures in
+    let tested = put .before .before .before .before .before .before .before .before .before .before .before .before in
     let i = tested .before .loop in
     let made = tested .before .before in
-    let s = made .before .before .before .before .before .before .before in
-    let p = s .pre in
-    let cell = cell-is _ _ (p .0) (p .2) (made .plan .ensures) (tested .loop-test .taken) (found .0)
-    (found .1) in
-    let f = gap-at (s .args .n) (s .args .cells .now) (s .args .listing .now) in
-    (omega arith, found .1 .long, rows-more f _ (s .args .n) (i .i) (written f _ (λ j lj. rw (cell j lj)) (i .inv .2)))
+    let s = made .before .before .before in
+    let cell =
+    cell-is _ _ (s .pre .0) (s .pre .3) (made .leaf-order .ensures) (tested .loop-test .taken) refl found in
+    let more = put .subtract-row .ensures (f s) _ (λ j lj. rw (cell j lj)) (i .inv .2) in
+    (omega arith, found .long, rows-more (f s) _ (s .args .n) (i .i) more)
 
 same-length : tie.Need-same-length Inv-loop μ-loop
 same-length c =
-    let s = c .before .before .before .before .before .before .before .before .before in
+    let s = c .before .before .before .before .before in
     let i = c .before .loop in
-    let f = gap-at (s .args .n) (s .args .cells .now) (s .args .listing .now) in
-    rows-room f _ (s .args .n) (i .i) (i .inv .0) (s .pre .3) (i .inv .2)
+    rows-room (f s) _ (s .args .n) (i .i) (i .inv .0) (s .pre .4) (i .inv .2)
 
 returns : tie.Need-returns Inv-loop μ-loop
 unfolding gaps
 returns c =
-    let s = c .before .before .before .before .before .before .before .before .before in
+    let s = c .before .before .before .before .before in
     let i = c .before .loop in
-    let f = gap-at (s .args .n) (s .args .cells .now) (s .args .listing .now) in
-    rows-all f _ (s .args .n) (i .i) (omega arith) (i .inv .2)
+    rows-all (f s) _ (s .args .n) (i .i) (omega arith) (i .inv .2)
 
 pub fill-gap-spec : {M : Type 1} → statement M
 fill-gap-spec =
@@ -101,8 +112,12 @@ fill-gap-spec =
     (tie.spec
     Inv-loop
     μ-loop
-    plan-requires
+    leaf-order-requires
     loop-holds
+    mul-base
+    element-copy-out-base
+    mul-p
+    element-copy-out-p
     find-row-requires
     subtract-row-requires
     add-i

@@ -10,8 +10,8 @@ use Rattle.limits.specs.Limits.{most-leaves}
 use Rattle.trees.specs.Listings.{tree-of}
 use Rattle.trees.specs.Quartets.{quartets}
 use Rattle.trees.specs.Tables.{table-of}
+use Rattle.least_depths.proofs.RowCounts.{row-asked, cell-is, row-found}
 use Rattle.tree_tables.proofs.RowsFilled.{rows-none, rows-room, rows-more, rows-all}
-use Rattle.tree_tables.proofs.Planned.{row-asked, cell-is, row-fits}
 use Rattle.tree_tables.proofs.fills.fill_table.Statement.{statement}
 use Rattle.tree_tables.proofs.fills.fill_table.Tie as tie
 
@@ -20,44 +20,55 @@ abbrev cell-at : ℕ → List ℕ → ℕ → ℕ
 cell-at n l k = quartets n (tree-of n l) (k / n) (k % n)
 
 abbrev Inv-loop : tie.InvT-loop
-Inv-loop n listing out₀ places aboves order depths tops₀ i₀ out tops i =
+Inv-loop n listing out₀ plan tops₀ i₀ out tops i =
     (i ≤ n) × (length tops ≡ most-leaves) × (out ≡ filled (i * n) (cell-at n listing) out₀)
 
 abbrev μ-loop : tie.MeasureT-loop
-μ-loop n listing out₀ places aboves order depths tops₀ i₀ out tops i = n - i
+μ-loop n listing out₀ plan tops₀ i₀ out tops i = n - i
 
-plan-requires : tie.Need-plan-requires Inv-loop μ-loop
-plan-requires c κs =
-    let p = c .before .before .before .before .before .before .pre in
-    (p .0, p .1, refl, refl, refl, refl)
+abbrev f : tie.Start Inv-loop μ-loop → ℕ → ℕ
+f s = cell-at (s .args .n) (s .args .listing .now)
+
+leaf-order-requires : tie.Need-leaf-order-requires Inv-loop μ-loop
+leaf-order-requires c κs = let p = c .before .before .pre in (p .0, p .1)
 
 loop-holds : tie.Need-loop-holds Inv-loop μ-loop
-loop-holds c =
-    let s = c .before .before .before .before .before .before .before in
-    (omega arith, refl, rows-none (cell-at (s .args .n) (s .args .listing .now)) _ _)
+loop-holds c = let s = c .before .before .before in (omega arith, refl, rows-none (f s) _ _)
+
+mul-base : tie.Need-mul-base Inv-loop μ-loop
+mul-base c = search needs
+
+element-copy-out-base : tie.Need-element-copy-out-base Inv-loop μ-loop
+element-copy-out-base c = search needs
+
+mul-p : tie.Need-mul-p Inv-loop μ-loop
+mul-p c = search needs
+
+element-copy-out-p : tie.Need-element-copy-out-p Inv-loop μ-loop
+element-copy-out-p c = search needs
 
 find-row-requires : tie.Need-find-row-requires Inv-loop μ-loop
 find-row-requires c κs =
-    let i = c .before .before .before .before .before .before .loop in
-    let made = c .before .before .before .before .before .before .before in
-    let p = made .before .before .before .before .before .before .before .pre in
-    row-asked _ _ (p .0) (p .1) (made .plan .ensures) (i .tops) (omega arith) (i .inv .1)
+    let i = c .before .before .before .before .before .before .before .loop in
+    let made = c .before .before .before .before .before .before .before .before in
+    let p = made .before .before .before .pre in
+    row-asked _ _ (p .0) (p .1) (made .leaf-order .ensures) (i .tops) (omega arith) (i .inv .1)
 
 write-row-requires : tie.Need-write-row-requires Inv-loop μ-loop
 write-row-requires c κs =
-    let found = c .before .before .before .find-row .ensures in
-    let tested = c .before .before .before .before .before .before .before .before .before in
+    let found = c .before .before .before .before .find-row .ensures in
+    let tested = c .before .before .before .before .before .before .before .before .before .before .before in
     let i = tested .before .loop in
     let made = tested .before .before in
-    let s = made .before .before .before .before .before .before .before in
-    let p = s .pre in
-    let f = cell-at (s .args .n) (s .args .listing .now) in
-    let long = rows-room f _ (s .args .n) (i .i) (i .inv .0) (p .2) (i .inv .2) in
-    let fits =
-    row-fits _ _ (p .0) (p .1) (made .plan .ensures) (tested .loop-test .taken) (found .0) (found .1)
-    (length (i .out))
-    (omega (arith, p .2, long)) in
-    fits
+    let s = made .before .before .before in
+    let long = rows-room (f s) _ (s .args .n) (i .i) (i .inv .0) (s .pre .2) (i .inv .2) in
+    record {
+      few = s .pre .0 .1;
+      row = tested .loop-test .taken;
+      enough = omega (arith, s .pre .2, long);
+      found = row-found _ _ (s .pre .0) (s .pre .1) (made .leaf-order .ensures) (tested .loop-test .taken) refl
+          found;
+    }
 
 add-i : tie.Need-add-i Inv-loop μ-loop
 add-i c = search needs
@@ -67,30 +78,29 @@ loop-less c = search needs
 
 loop-again : tie.Need-loop-again Inv-loop μ-loop
 loop-again c =
-    let found = c .before .before .before .before .before .before .find-row .ensures in
-    let written = c .before .before .write-row .ensures in
-    let tested = c .before .before .before .before .before .before .before .before .before .before .before .before in
+    let put = c .before .before in
+    let found = put .before .before .before .before .before .find-row .ensures in
+    let tested = put .before .before .before .before .before .before .before .before .before .before .before .before in
     let i = tested .before .loop in
     let made = tested .before .before in
-    let s = made .before .before .before .before .before .before .before in
-    let p = s .pre in
-    let cell = cell-is _ _ (p .0) (p .1) (made .plan .ensures) (tested .loop-test .taken) (found .0)
-    (found .1) in
-    let f = cell-at (s .args .n) (s .args .listing .now) in
-    (omega arith, found .1 .long, rows-more f _ (s .args .n) (i .i) (written f _ cell (i .inv .2)))
+    let s = made .before .before .before in
+    let cell =
+    cell-is _ _ (s .pre .0) (s .pre .1) (made .leaf-order .ensures) (tested .loop-test .taken) refl found in
+    let more = put .write-row .ensures (f s) _ cell (i .inv .2) in
+    (omega arith, found .long, rows-more (f s) _ (s .args .n) (i .i) more)
 
 same-length : tie.Need-same-length Inv-loop μ-loop
 same-length c =
-    let s = c .before .before .before .before .before .before .before .before .before in
+    let s = c .before .before .before .before .before in
     let i = c .before .loop in
-    rows-room (cell-at (s .args .n) (s .args .listing .now)) _ (s .args .n) (i .i) (i .inv .0) (s .pre .2) (i .inv .2)
+    rows-room (f s) _ (s .args .n) (i .i) (i .inv .0) (s .pre .2) (i .inv .2)
 
 returns : tie.Need-returns Inv-loop μ-loop
 unfolding table-of
 returns c =
-    let s = c .before .before .before .before .before .before .before .before .before in
+    let s = c .before .before .before .before .before in
     let i = c .before .loop in
-    rows-all (cell-at (s .args .n) (s .args .listing .now)) _ (s .args .n) (i .i) (omega arith) (i .inv .2)
+    rows-all (f s) _ (s .args .n) (i .i) (omega arith) (i .inv .2)
 
 pub fill-table-spec : {M : Type 1} → statement M
 fill-table-spec =
@@ -98,8 +108,12 @@ fill-table-spec =
     (tie.spec
     Inv-loop
     μ-loop
-    plan-requires
+    leaf-order-requires
     loop-holds
+    mul-base
+    element-copy-out-base
+    mul-p
+    element-copy-out-p
     find-row-requires
     write-row-requires
     add-i

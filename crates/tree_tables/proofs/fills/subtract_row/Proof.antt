@@ -11,27 +11,28 @@ use mir.Syntax.{w64}
 use mir.Facts.{toZ-ofZ}
 use Rattle.base.specs.Lists.{filled}
 use Rattle.base.proofs.Lists.{place}
-use Rattle.tree_tables.specs.Orders.{most-sum, count-in}
+use Rattle.limits.specs.Limits.{most-cells}
+use Rattle.least_depths.specs.inner.Depths.{count-in}
 use Rattle.tree_tables.proofs.RowsFilled.{cell-place, cell-more}
 use Rattle.tree_tables.proofs.fills.subtract_row.Statement.{statement}
 use Rattle.tree_tables.proofs.fills.subtract_row.Tie as tie
 
 abbrev Inv-loop : tie.InvT-loop
-Inv-loop n i base aboves tops cells out₀ j₀ out j =
+Inv-loop n i scale base aboves tops cells out₀ j₀ out j =
     (j ≤ n) × (length out ≡ length out₀)
     × ((f : ℕ → ℤ) (l : List ℤ)
-    → ((k : ℕ) → k < n → f (i * n + k) ≡ pos (getD cells (i * n + k) 0) -ℤ pos (count-in base aboves tops k))
+    → ((k : ℕ) → k < n → f (i * n + k) ≡ pos (getD cells (i * n + k) 0) -ℤ pos (scale * count-in base aboves tops k))
     → out₀ ≡ filled (i * n) f l → out ≡ filled (i * n + j) f l)
 
 abbrev μ-loop : tie.MeasureT-loop
-μ-loop n i base aboves tops cells out₀ j₀ out j = n - j
+μ-loop n i scale base aboves tops cells out₀ j₀ out j = n - j
 
 -- the place of the next gap
 here :
     (c : tie.After-less Inv-loop μ-loop)
     → (let b = c .before .before .before .before in
     let a = b .before .before .args in
-    (a .i * a .n + b .loop .j < most-sum) × (a .i * a .n + b .loop .j < length (a .out .now)))
+    (a .i * a .n + b .loop .j < most-cells) × (a .i * a .n + b .loop .j < length (a .out .now)))
 here c =
     let b = c .before .before .before .before in
     cell-place (b .before .before .pre .0) (b .loop .j) (omega arith)
@@ -52,19 +53,22 @@ shared-slice-read-less : tie.Need-shared-slice-read-less Inv-loop μ-loop
 shared-slice-read-less c =
     let s = c .before .before .before .before in
     let j = c .before .before .loop .j in
-    omega (arith, place (s .args .n) (s .args .i) j (s .pre .0 .row) (omega arith), s .pre .1)
+    omega (arith, place (s .args .n) (s .args .i) j (s .pre .0 .row) (omega arith), s .pre .2)
 
 count-at-requires : tie.Need-count-at-requires Inv-loop μ-loop
 count-at-requires c κs =
     let fit = c .before .before .before .before .pre .0 in
     let j = c .before .before .loop .j in
-    (omega (arith, fit .few), fit .covered j (omega arith), fit .fits j (omega arith))
+    (omega (arith, fit .few), fit .found .covered j (omega arith), fit .found .fits j (omega arith))
 
 less-requires : tie.Need-less-requires Inv-loop μ-loop
-less-requires c κs = search needs
+less-requires c κs =
+    let s = c .before .before .before .before .before in
+    let fits = s .pre .0 .found .fits (c .before .before .before .loop .j) (omega arith) in
+    (s .pre .1, omega (arith, fits, c .count-at .ensures))
 
-mul-t16 : tie.Need-mul-t16 Inv-loop μ-loop
-mul-t16 c = omega (arith, here c .0)
+mul-t17 : tie.Need-mul-t17 Inv-loop μ-loop
+mul-t17 c = omega (arith, here c .0)
 
 slice-set-from-out : tie.Need-slice-set-from-out Inv-loop μ-loop
 slice-set-from-out c = omega (arith, here c .1, c .before .before .before .before .loop .inv .1)
@@ -111,7 +115,7 @@ subtract-row-spec =
     shared-slice-read-less
     count-at-requires
     less-requires
-    mul-t16
+    mul-t17
     slice-set-from-out
     add-j
     loop-less

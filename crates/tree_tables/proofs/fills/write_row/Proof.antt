@@ -7,7 +7,8 @@ use native.Mathlib.Omega.{arith}
 use borrow.Author.Needs.{needs}
 use lib.ListN.{length, length-set}
 use Rattle.base.specs.Lists.{filled}
-use Rattle.tree_tables.specs.Orders.{most-sum, count-in}
+use Rattle.limits.specs.Limits.{most-cells}
+use Rattle.least_depths.specs.inner.Depths.{count-in}
 use Rattle.tree_tables.proofs.RowsFilled.{cell-place, cell-more}
 use Rattle.tree_tables.proofs.fills.write_row.Statement.{statement}
 use Rattle.tree_tables.proofs.fills.write_row.Tie as tie
@@ -26,7 +27,7 @@ here :
     (c : tie.After-count-at Inv-loop μ-loop)
     → (let b = c .before .before in
     let a = b .before .before .args in
-    (a .i * a .n + b .loop .j < most-sum) × (a .i * a .n + b .loop .j < length (a .out .now)))
+    (a .i * a .n + b .loop .j < most-cells) × (a .i * a .n + b .loop .j < length (a .out .now)))
 here c = cell-place (c .before .before .before .before .pre) (c .before .before .loop .j) (omega arith)
 
 loop-holds : tie.Need-loop-holds Inv-loop μ-loop
@@ -36,7 +37,7 @@ count-at-requires : tie.Need-count-at-requires Inv-loop μ-loop
 count-at-requires c κs =
     let fit = c .before .before .before .pre in
     let j = c .before .loop .j in
-    (omega (arith, fit .few), fit .covered j (omega arith), fit .fits j (omega arith))
+    (omega (arith, fit .few), fit .found .covered j (omega arith), fit .found .fits j (omega arith))
 
 mul-out : tie.Need-mul-out Inv-loop μ-loop
 mul-out c = omega (arith, here c .0)

@@ -1,0 +1,4 @@
+pub mod LeafOrders
+pub mod Planned
+pub mod Rows
+mod Placing

@@ -1,0 +1,3 @@
+mod LeastDepths
+mod Meeting
+pub mod RowCounts

@@ -1,0 +1,121 @@
+-- What a plan gives: each place has its leaf, and each row of the table is found from the least depths between the
+-- row's leaf and the others.
+use mathlib.Core.Path.{_≡_, ap, sym, _∙_}
+use mathlib.Core.Logic.{_⊎_, inl, inr, _≢_}
+use mathlib.Core.List.{List}
+use Prim.Native.Nat.{ℕ, _+_, _-_, _*_, _/_, _%_, _≤_, _<_}
+use native.Mathlib.Omega.{arith}
+use native.Mathlib.Decide.{ℕ-discrete}
+use lib.ListN.{length}
+use Rattle.base.proofs.Lists.{row-of, column-of}
+use Rattle.limits.specs.Limits.{most-leaves, IsLeafCount}
+use Rattle.pair_counts.specs.Pairs.{P}
+use Rattle.trees.specs.Trees.{Tree, leaf, node, size}
+use Rattle.trees.specs.Listings.{KeepsRules, tree-of}
+use Rattle.trees.specs.Quartets.{quartets}
+use Rattle.trees.proofs.Trees.{OnLeaves, on-tree, root-within, root-distinct, root-all}
+use Rattle.trees.proofs.Quartets.{cell-limit, quartets-diagonal}
+use Rattle.trees.proofs.PathSums.{path-sum-turn, count-formula}
+use Rattle.leaf_orders.specs.inner.Orders.{most-sum, whole, at, IsPlan}
+use Rattle.leaf_orders.proofs.LeafOrders.{place-in, leaf-at}
+use Rattle.leaf_orders.proofs.Planned as planned
+use Rattle.leaf_orders.proofs.Rows.{pairs-small}
+use Rattle.least_depths.specs.inner.Depths.{LeafOrder, LeastDepths, count-in, RowFound}
+use Rattle.least_depths.proofs.Meeting.{Meets, meets}
+
+module _ (n : ℕ) (l : List ℕ) (count : IsLeafCount n) (keeps : KeepsRules n l) where
+  -- the tree under leaf 0, and with leaf 0 put on
+  abbrev T : Tree
+  T = tree-of n l
+
+  abbrev W : Tree
+  W = node (leaf 0) T
+
+  on : OnLeaves n T
+  on = planned.on n l count keeps
+
+  whole-size : size W ≡ n
+  whole-size = planned.whole-size n l count keeps
+
+  module _ {places aboves order depths : List ℕ} (p : IsPlan n T places aboves order depths) where
+    -- the leaf at a place
+    leaf-there : (s : ℕ) → s < n → (k : ℕ) × (k < n) × (at places k ≡ s) × (at order s ≡ k)
+    leaf-there s ls =
+        let r =
+        leaf-at n (at places) (at aboves) (λ k. at depths (at places k)) W 0 0 0 (p .laid) s (omega arith)
+        (omega (arith, whole-size)) in
+        let below = root-within n T on (omega arith) (r .0) (r .1) in
+        (r .0, below, r .2, ap (at order) (sym (r .2)) ∙ p .placed (r .0) below)
+
+    pub leaf-order : LeafOrder n order
+    leaf-order = record {
+      few = count .1;
+      below = λ s ls. (let r = leaf-there s ls in rw (r .3) (r .1));
+      once = λ s t ls lt e.
+          let r = leaf-there s ls in
+          let q = leaf-there t lt in
+          sym (r .2) ∙ ap (at places) (sym (r .3) ∙ e ∙ q .3) ∙ q .2;
+    }
+
+    pub place-below : (k : ℕ) → k < n → at places k < n
+    place-below k lk =
+        omega (
+          arith,
+          whole-size,
+          place-in n (at places) (at aboves) (λ k. at depths (at places k)) W 0 0 0 (p .laid) k (root-all n T on k lk)
+              .1,
+        )
+
+    -- what `find_row` asks
+    small : P n ≤ most-sum
+    small = pairs-small n (count .1)
+
+    above-small : (k : ℕ) → k < n → at aboves k ≤ most-sum
+    above-small k lk = omega (arith, p .small k lk, small)
+
+    pub row-asked :
+        {i : ℕ} (tops : List ℕ) → i < n → length tops ≡ most-leaves
+        → LeafOrder n order × (at places i < n) × (at aboves i ≤ most-sum) × (length tops ≡ most-leaves)
+    row-asked {i} tops li long = (leaf-order, place-below i li, above-small i li, long)
+
+    -- the counts of row i
+    module _ {i base : ℕ} {tops : List ℕ} (li : i < n) (eb : base ≡ at aboves i)
+        (t : LeastDepths n order depths (at places i) (whole - (base + base)) tops) where
+      pub row-counts : (j : ℕ) → j < n → base + at aboves j + at tops j ≡ quartets n T i j + whole
+      row-counts j lj = elim (ℕ-discrete i j) [
+        | yes e ↦
+            rw (← e, quartets-diagonal n T i)
+            (omega (arith, ap (at tops) (p .placed i li), t .here, above-small i li))
+        | no d ↦
+            elim (either j lj d) [
+              | inl m ↦
+                  let least = rw (p .placed j lj) at (t .after (at places j) (m .in-order) (place-below j lj)) in
+                  omega (arith, count-formula n T (on-tree n T on) i j li lj d, m .sum (at tops j) least)
+              | inr m ↦
+                  let least = rw (p .placed j lj) at (t .before (at places j) (m .in-order)) in
+                  omega (
+                    arith,
+                    count-formula n T (on-tree n T on) i j li lj d,
+                    path-sum-turn n W i j,
+                    m .sum (at tops j) least,
+                  )
+            ]
+      ]
+        where
+          either :
+              (j : ℕ) → j < n → i ≢ j
+              → Meets n small (at places) (at aboves) depths W i j ⊎ Meets n small (at places) (at aboves) depths W j i
+          either j lj d =
+              meets n small (at places) (at aboves) depths W 0 0 0 (p .laid) (root-distinct n T on)
+              (omega (arith, whole-size)) i j (root-all n T on i li) (root-all n T on j lj) d (above-small i li)
+              (above-small j lj)
+
+      -- a cell of the row, by its place in the table
+      pub cell-is : (j : ℕ) → j < n → quartets n T ((i * n + j) / n) ((i * n + j) % n) ≡ count-in base aboves tops j
+      cell-is j lj = rw (row-of n i j lj, column-of n i j lj) (omega (arith, row-counts j lj))
+
+      pub row-found : RowFound n base aboves tops
+      row-found = record {
+        covered = λ j lj. omega (arith, row-counts j lj);
+        fits = λ j lj. omega (arith, row-counts j lj, cell-limit n count T i j li lj);
+      }

@@ -1,0 +1,60 @@
+-- `least_depths::find_row` meets its contract: what the pass to the right found is not changed by the pass to the left.
+use Prim.Native.Nat.{_+_, _-_}
+use native.Mathlib.Omega.{arith}
+use borrow.Author.Needs.{needs}
+use Rattle.leaf_orders.specs.inner.Orders.{whole}
+use Rattle.least_depths.proofs.LeastDepths.{topped}
+use Rattle.least_depths.proofs.find_row.Statement.{statement}
+use Rattle.least_depths.proofs.find_row.Tie as tie
+
+rightwards-requires : tie.Need-rightwards-requires
+rightwards-requires c κs = search needs
+
+leftwards-requires : tie.Need-leftwards-requires
+leftwards-requires c κs = search needs
+
+mul-i : tie.Need-mul-i
+mul-i c = search needs
+
+element-copy-out-i : tie.Need-element-copy-out-i
+element-copy-out-i c = search needs
+
+add-tops : tie.Need-add-tops
+add-tops c = search needs
+
+sub-tops : tie.Need-sub-tops
+sub-tops c = search needs
+
+mul-tops : tie.Need-mul-tops
+mul-tops c =
+    let s = c .before .before .before .before .before in
+    omega (arith, s .pre .0 .below (s .args .p) (s .pre .1), s .pre .0 .few)
+
+element-write-tops : tie.Need-element-write-tops
+element-write-tops c =
+    let s = c .before .before .before .before .before in
+    omega (arith, s .pre .0 .below (s .args .p) (s .pre .1), s .pre .0 .few)
+
+returns : tie.Need-returns
+returns c =
+    let a = c .before .before .before .before .before .args in
+    let p = c .before .before .before .before .before .pre in
+    let right = c .before .before .before .rightwards in
+    let left = c .before .leftwards in
+    let other = left .ensures in
+    topped (a .n) (a .order .now) (a .depths .now) (right .last .1 .1 .1 .1 .0) (left .last .1 .1 .1 .1 .0) (a .p)
+    (whole - (a .base + a .base)) (p .0) (p .1) (other .0) (right .ensures .1) (other .1) (other .2)
+
+pub find-row-spec : {M : Type 1} → statement M
+find-row-spec =
+    tie.close
+    (tie.spec
+    rightwards-requires
+    leftwards-requires
+    mul-i
+    element-copy-out-i
+    add-tops
+    sub-tops
+    mul-tops
+    element-write-tops
+    returns)

@@ -1,0 +1,119 @@
+// The least depth between a leaf's place and that of each other leaf: the depth of the node in which the two meet, the
+// top of the path between them. By it, and by what branches off above the two leaves, the count of a cell is found.
+use leaf_orders::WHOLE;
+use limits::MOST_LEAVES;
+use limits::MOST_NODES;
+ghost use mathlib.Core.Path.{_≡_};
+ghost use Prim.Native.Nat.{ℕ, _+_, _-_, _<_, _≤_};
+ghost use lib.ListN.{length, getD, set};
+ghost use Rattle.limits.specs.Limits.{most-leaves};
+ghost use Rattle.leaf_orders.specs.inner.Orders.{most-sum, whole};
+ghost use Rattle.least_depths.specs.inner.Depths.{most-depth, LeafOrder, LeastBetween, LeastDepths, count-in};
+
+// No depth is larger.
+const MOST_DEPTH: u32 = (3 * MOST_LEAVES * MOST_LEAVES) as u32;
+
+// The smaller of two numbers.
+fn smaller(x: u32, y: u32) -> u32
+    ensures { λ r. ⌜ (r ≤ x) × (r ≤ y) × ((z : ℕ) → z ≤ x → z ≤ y → z ≤ r) ⌝ }
+{
+    if x < y {
+        return x;
+    }
+    y
+}
+
+// The leaf at place s keeps the smaller of `low` and the depth before place t.
+fn keep_least(
+    order: &[usize; MOST_LEAVES],
+    depths: &[u32; MOST_LEAVES],
+    t: usize,
+    s: usize,
+    low: u32,
+    tops: &mut [u32; MOST_LEAVES],
+) -> u32
+    requires { ⌜ (t < most-leaves) × (s < most-leaves) × (getD (now order) s 0 < most-leaves)
+        × (length (now tops) ≡ most-leaves) ⌝ }
+    ensures { λ r. ⌜ (r ≤ low) × (r ≤ getD (now (depths .entry)) t 0)
+        × ((z : ℕ) → z ≤ low → z ≤ getD (now (depths .entry)) t 0 → z ≤ r)
+        × (now (tops .exit) ≡ set (now (tops .entry)) (getD (now (order .entry)) s 0) r) ⌝ }
+{
+    let r = smaller(low, depths[t]);
+    let j = order[s];
+    tops[j] = r;
+    r
+}
+
+// The least depth from place p to each place after it.
+fn rightwards(
+    n: usize,
+    order: &[usize; MOST_LEAVES],
+    depths: &[u32; MOST_LEAVES],
+    p: usize,
+    tops: &mut [u32; MOST_LEAVES],
+)
+    requires { ⌜ LeafOrder n (now order) × (p < n) × (length (now tops) ≡ most-leaves) ⌝ }
+    ensures { λ _. ⌜ (length (now (tops .exit)) ≡ most-leaves)
+        × ((s : ℕ) → p < s → s < n
+        → LeastBetween (now (depths .entry)) p s (getD (now (tops .exit)) (getD (now (order .entry)) s 0) 0)) ⌝ }
+{
+    let mut low: u32 = MOST_DEPTH;
+    let mut t: usize = p + 1;
+    while t < n {
+        low = keep_least(order, depths, t, t, low, tops);
+        t += 1;
+    }
+}
+
+// The least depth from place p to each place before it.
+fn leftwards(
+    n: usize,
+    order: &[usize; MOST_LEAVES],
+    depths: &[u32; MOST_LEAVES],
+    p: usize,
+    tops: &mut [u32; MOST_LEAVES],
+)
+    requires { ⌜ LeafOrder n (now order) × (p < n) × (length (now tops) ≡ most-leaves) ⌝ }
+    ensures { λ _. ⌜ (length (now (tops .exit)) ≡ most-leaves)
+        × ((s : ℕ) → s < p
+        → LeastBetween (now (depths .entry)) s p (getD (now (tops .exit)) (getD (now (order .entry)) s 0) 0))
+        × ((s : ℕ) → p < s → s < n
+        → getD (now (tops .exit)) (getD (now (order .entry)) s 0) 0
+        ≡ getD (now (tops .entry)) (getD (now (order .entry)) s 0) 0) ⌝ }
+{
+    let mut low: u32 = MOST_DEPTH;
+    let mut t: usize = p;
+    while t > 0 {
+        low = keep_least(order, depths, t, t - 1, low, tops);
+        t -= 1;
+    }
+}
+
+// What the counts of a row are found from, for the crates above: the least depth between the place p of the row's leaf
+// and that of each other leaf. The leaf itself, above which `base` pairs branch off, keeps what makes its own count 0.
+pub fn find_row<'a>(
+    n: usize,
+    order: &'a [usize; MOST_LEAVES],
+    depths: &'a [u32; MOST_LEAVES],
+    p: usize,
+    base: u32,
+    tops: &mut [u32; MOST_LEAVES],
+)
+    requires { ⌜ LeafOrder n (now order) × (p < n) × (base ≤ most-sum) × (length (now tops) ≡ most-leaves) ⌝ }
+    ensures { λ _. ⌜ LeastDepths n (now (order .entry)) (now (depths .entry)) p (whole - (base + base))
+        (now (tops .exit)) ⌝ }
+{
+    rightwards(n, order, depths, p, tops);
+    leftwards(n, order, depths, p, tops);
+    let i = order[p];
+    tops[i] = WHOLE - (base + base);
+}
+
+// The count of a cell in the column of leaf j, for the crates above.
+pub fn count_at(base: u32, aboves: &[u32; MOST_NODES], tops: &[u32; MOST_LEAVES], j: usize) -> u32
+    requires { ⌜ (j < most-leaves) × (whole ≤ base + getD (now aboves) j 0 + getD (now tops) j 0)
+        × (base + getD (now aboves) j 0 + getD (now tops) j 0 ≤ most-depth) ⌝ }
+    ensures { λ r. ⌜ r ≡ count-in base (now (aboves .entry)) (now (tops .entry)) j ⌝ }
+{
+    base + aboves[j] + tops[j] - WHOLE
+}

@@ -1,0 +1,88 @@
+-- `tree_tables::judge_gap` meets its contract: the sizes stop it, or the listing does, or the cells decide.
+use mathlib.Core.Path.{_≡_, sym, ap, _∙_}
+use mathlib.Core.Option.{none}
+use Prim.Native.Nat.{_*_}
+use native.Mathlib.Omega.{arith}
+use borrow.Author.Needs.{needs}
+use lib.ListN.{length}
+use Rattle.limits.specs.declared.Kind.the-variants.{Counts}
+use Rattle.limits.proofs.TablePlaces.{square-small}
+use Rattle.refusals.specs.Refusals.{outcome-of}
+use Rattle.refusals.proofs.Answers.{call-passed}
+use Rattle.checks.specs.Sizes.{input-refusal}
+use Rattle.checks.proofs.Sizes.{input-due, input-right}
+use Rattle.tree_tables.proofs.TableAnswers.{sizes-stop, listing-stops, cells-decide}
+use Rattle.tree_tables.proofs.judge_gap.Statement.{statement}
+use Rattle.tree_tables.proofs.judge_gap.Tie as tie
+
+table-cells-requires : tie.Need-table-cells-requires
+table-cells-requires c κs = search needs
+
+judge-input-requires : tie.Need-judge-input-requires
+judge-input-requires c κs = search needs
+
+-- what was judged of the sizes
+sizes :
+    (c : tie.After-judge-input)
+    → let a = c .before .before .before .before .args in
+    c .judge-input .result ≡ outcome-of (input-refusal Counts (a .n) (a .n * a .n) (length (a .cells .now)))
+sizes c = c .judge-input .ensures ∙ ap outcome-of (input-due _ _ _ _ _ (c .before .table-cells .ensures))
+
+enum-told : tie.Need-enum-told
+enum-told c = search needs
+
+enum-told-2 : tie.Need-enum-told-2
+enum-told-2 c = search needs
+
+returns : tie.Need-returns
+returns c = sizes-stop _ _ _ _ (sizes (c .before .before)) (c .enum-told2 .given .1)
+
+-- nothing of them is refused
+fine :
+    (c : tie.After-enum-told)
+    → let a = c .before .before .before .before .before .before .args in
+    input-refusal Counts (a .n) (a .n * a .n) (length (a .cells .now)) ≡ none
+fine c = call-passed _ (sizes (c .before .before)) (c .enum-told .given .1)
+
+mul-judge : tie.Need-mul-judge
+mul-judge c = let few = input-right _ _ _ _ (fine c) .0 .1 in omega (arith, few, square-small _ few)
+
+judge-requires : tie.Need-judge-requires
+judge-requires c κs = search needs
+
+enum-told-3 : tie.Need-enum-told-3
+enum-told-3 c = search needs
+
+enum-told-4 : tie.Need-enum-told-4
+enum-told-4 c = search needs
+
+returns-2 : tie.Need-returns-2
+returns-2 c =
+    let made = c .before .before in
+    listing-stops _ _ _ _ (fine (made .before)) (made .judge .ensures) (c .enum-told4 .given .1)
+
+judge-requires-2 : tie.Need-judge-requires-2
+judge-requires-2 c κs = search needs
+
+returns-3 : tie.Need-returns-3
+returns-3 c =
+    let made = c .before .before .before in
+    cells-decide _ _ _ _ (fine (made .before)) (made .judge .ensures) (c .before .enum-told3 .given .1)
+    (c .judge2 .ensures)
+
+pub judge-gap-spec : {M : Type 1} → statement M
+judge-gap-spec =
+    tie.close
+    (tie.spec
+    table-cells-requires
+    judge-input-requires
+    enum-told
+    enum-told-2
+    returns
+    mul-judge
+    judge-requires
+    enum-told-3
+    enum-told-4
+    returns-2
+    judge-requires-2
+    returns-3)
