@@ -1,16 +1,20 @@
 -- Row by row: the node of row k of a listing that keeps the rules joins what stands under its two children, numbers
 -- that come before it. A row changes nothing under the numbers before it, so what was read under a number stays.
 -- Under each number stand distinct leaves below n, and what stands under the node of a row is a subtree of the tree.
+-- No number is leaf 0, and none is named twice.
 use mathlib.Core.Path.{_≡_, refl, sym, _∙_}
-use mathlib.Core.Logic.{inl, inr}
-use mathlib.Core.Bool.{Bool, true}
+use mathlib.Core.Logic.{inl, inr, _≢_}
+use mathlib.Core.Bool.{Bool, true, false}
 use mathlib.Core.List.{List, [], _∷_}
 use mathlib.Core.Option.{none}
 use Prim.Native.Nat.{ℕ, zero, suc, _+_, _-_, _*_, _/_, _<_}
 use native.Mathlib.Nat.{zero-add, add-zero}
 use native.Mathlib.Omega.{arith}
 use native.Mathlib.Decide.{decLt, ℕ-discrete}
+use lib.Dec.{eqb}
 use lib.ListN.{length, getD}
+use Rattle.base.specs.Lists.{any-in}
+use Rattle.base.proofs.Bools.{never, or-neither, eqb-same}
 use Rattle.limits.specs.Limits.{IsLeafCount}
 use Rattle.trees.specs.Trees.{Tree, leaf, node}
 use Rattle.trees.specs.Listings.{child, rules-refusal-from, rules-refusal, KeepsRules, with-rows, subtree-at}
@@ -158,3 +162,51 @@ subtree-at-in n l k count keeps h =
     let rows = to-lawful n (n - 2) (omega arith) l (keeps .numbers) (keeps .rules) in
     let made = rows-distinct-below (forest-start n (omega arith)) l (n - 2) k (keeps .numbers) h rows .2 in
     rw (last-alone n l (count .0) (keeps .numbers) rows (made .0) (made .1)) at (made .2)
+
+-- what is named nowhere in a list is not its first number, and is named nowhere in the rest
+any-more : (x c : ℕ) (l : List ℕ) → any-in (eqb x) (c ∷ l) ≡ false → (eqb x c ≡ false) × (any-in (eqb x) l ≡ false)
+unfolding any-in
+any-more x c l h = or-neither (eqb x c) (any-in (eqb x) l) h
+
+-- What the rules say of the child at a place: it is no leaf 0, and differs from those named before.
+module _ (n : ℕ) where
+  rest-keeps :
+      (before : List ℕ) (p c : ℕ) (l : List ℕ) → rules-refusal-from n before p p (c ∷ l) ≡ none
+      → rules-refusal-from n (c ∷ before) (suc p) (suc p) l ≡ none
+  rest-keeps before p c l h =
+      let r = place-kept n before p p c l h in
+      sym (place-keeps n before p p c l (r .0) (r .1)) ∙ h
+
+  new-at :
+      0 < n → (before : List ℕ) (p : ℕ) (l : List ℕ) → rules-refusal-from n before p p l ≡ none → (q : ℕ)
+      → q < length l → (0 < getD l q 0) × (any-in (eqb (getD l q 0)) before ≡ false)
+  new-at z before p [] h q lq = absurd (omega arith)
+  new-at z before p (c ∷ l) h zero lq =
+      let r = place-kept n before p p c l h in
+      (child-in n (p / 2) c z (r .0) .0, r .1)
+  new-at z before p (c ∷ l) h (suc q) lq =
+      let r = new-at z (c ∷ before) (suc p) l (rest-keeps before p c l h) q (omega arith) in
+      (r .0, any-more (getD l q 0) c before (r .1) .1)
+
+  differ-at :
+      0 < n → (before : List ℕ) (p : ℕ) (l : List ℕ) → rules-refusal-from n before p p l ≡ none → (q r : ℕ) → q < r
+      → r < length l → getD l q 0 ≢ getD l r 0
+  differ-at z before p [] h q r lq lr e = omega arith
+  differ-at z before p (c ∷ l) h q zero lq lr e = omega arith
+  differ-at z before p (c ∷ l) h zero (suc r) lq lr e =
+      let named = new-at z (c ∷ before) (suc p) l (rest-keeps before p c l h) r (omega arith) .1 in
+      never (eqb-same c) (rw (sym e) at (any-more (getD l r 0) c before named .0))
+  differ-at z before p (c ∷ l) h (suc q) (suc r) lq lr e =
+      differ-at z (c ∷ before) (suc p) l (rest-keeps before p c l h) q r (omega arith) (omega arith) e
+
+  module _ (l : List ℕ) (z : 0 < n) (keeps : KeepsRules n l) where
+    pub child-positive : (q : ℕ) → q < length l → 0 < getD l q 0
+    unfolding rules-refusal
+    child-positive q h = new-at z [] 0 l (keeps .rules) q h .0
+
+    pub named-once : (q r : ℕ) → q < length l → r < length l → q ≢ r → getD l q 0 ≢ getD l r 0
+    unfolding rules-refusal
+    named-once q r lq lr d e = elim (decLt q r) [
+      | yes less ↦ differ-at z [] 0 l (keeps .rules) q r less lr e
+      | no g ↦ differ-at z [] 0 l (keeps .rules) r q (omega arith) lq (sym e)
+    ]
