@@ -31,7 +31,7 @@ use Rattle.refusals.proofs.Answers.{judged-none, answered-accepted}
 use Rattle.polls.specs.declared.Record.{Record}
 use Rattle.polls.specs.declared.judging.Quartet.{Quartet}
 use Rattle.polls.specs.Records.{four, quartets-of, is-of, record-refusal, records-refusal-from, records-refusal}
-use Rattle.polls.specs.Counts.{cell-of, of-code, adds, poll-cell, poll-table, is-own}
+use Rattle.polls.specs.Counts.{cell-of, beside, adds, poll-cell, poll-table, is-own}
 use Rattle.polls.specs.Operations.{poll-sizes-refusal, poll-refusal, poll-answer}
 use Rattle.polls.specs.Steps.{Leaves}
 use Rattle.polls.proofs.Counts.{of-four, adds-code, pairs-apart, poll-mirror}
@@ -112,7 +112,7 @@ own-total T i j k (q ∷ Q) (r ∷ R) l h g =
 -- it adds 1 to the cells of that pairing
 own-pairing :
     (T : Tree) (i j a b c d p : ℕ) → pairing T a b c d ≡ p
-    → own-adds T i j (four a b c d) ≡ indicator (of-code p (own-record T (four a b c d)) i j) 1
+    → own-adds T i j (four a b c d) ≡ indicator (beside p (own-record T (four a b c d)) i j) 1
 unfolding own-adds own-record
 own-pairing T i j a b c d p e = adds-code (own-record T (four a b c d)) p e i j
 
@@ -133,8 +133,8 @@ rising-four n a b c d l = record {
 
 -- nothing is added on the diagonal
 pub code-diagonal :
-    (p : ℕ) (r : Record) (i : ℕ) → r .a < r .b → r .b < r .c → r .c < r .d → of-code p r i i ≡ false
-unfolding of-code
+    (p : ℕ) (r : Record) (i : ℕ) → r .a < r .b → r .b < r .c → r .c < r .d → beside p r i i ≡ false
+unfolding beside
 code-diagonal zero r i ab bc cd = rw (cell-diagonal (r .a) (r .b) i ab, cell-diagonal (r .c) (r .d) i cd)
 code-diagonal (suc zero) r i ab bc cd =
     rw (cell-diagonal (r .a) (r .c) i (omega arith), cell-diagonal (r .b) (r .d) i (omega arith))
@@ -195,7 +195,7 @@ module _ (n : ℕ) (T : Tree) (t : IsTree n T) (i j : ℕ) (ij : i < j) (jn : j 
   own-either :
       (a b c d : ℕ) → Leaves n a b c d
       → own-adds T i j (four a b c d) ≡ either a b c d + (either a c b d + either a d b c)
-  unfolding pairing of-code own-record
+  unfolding pairing beside own-record
   own-either a b c d l =
       let f = rising-four n a b c d l in
       let ac : a < c = omega (arith, l .ab, l .bc) in
