@@ -1,5 +1,6 @@
 // Whether two subtrees may be merged: each pair of a leaf of one and a leaf of the other has the cell that is expected.
 // The table is lent as cells, `table`, or in bytes, `packed`. For the crates of the rebuilds.
+use limits::LEAF_COUNTS;
 use limits::MOST_LEAVES;
 ghost use mathlib.Core.Path.{_≡_};
 ghost use mathlib.Core.Logic.{_↔_};
@@ -9,13 +10,11 @@ ghost use lib.Dec.{eqb};
 ghost use lib.ListN.{length};
 ghost use Rattle.base.specs.Numbers.{indicator, count-below};
 ghost use Rattle.limits.specs.Limits.{most-leaves};
-ghost use Rattle.pair_counts.specs.Pairs.{P};
 ghost use Rattle.trees.specs.Tables.{cell};
 ghost use Rattle.packed_tables.specs.Packed.{table-with, packed-cells, Packed};
 ghost use Rattle.eligible_pairs.specs.inner.Lent.{lent-table};
 ghost use Rattle.eligible_pairs.specs.inner.Mismatches.{mismatch, mismatch-in, mismatch-at};
-ghost use Rattle.state_arrays.specs.inner.Fits.{BlockFits, SubtreesFit, SmallSums};
-ghost use Rattle.state_arrays.specs.inner.Fits.{TwoLabels};
+ghost use Rattle.state_arrays.specs.inner.Fits.{largest-sum, SmallSums, BlockFits, SubtreesFit, TwoLabels};
 
 // Whether a cell has the value expected. Every test of a cell is this one.
 pub fn as_expected(cell: u32, expected: u32) -> bool
@@ -57,7 +56,7 @@ fn cells_wrong(
     b: u32,
     e: u32,
 ) -> u32
-    requires { ⌜ (n ≤ most-leaves) × (n ≤ length (now row)) × SmallSums n (now m) × (e ≤ 2 * P most-leaves) ⌝ }
+    requires { ⌜ (n ≤ most-leaves) × (n ≤ length (now row)) × SmallSums n (now m) × (e ≤ 2 * largest-sum) ⌝ }
     ensures { λ r. ⌜ r ≡ count-below n (mismatch-in (now (row .entry)) (now (label .entry)) (now (m .entry)) b e) ⌝ }
 {
     let mut bad: u32 = 0;
@@ -79,7 +78,7 @@ fn packed_wrong(
     b: u32,
     e: u32,
 ) -> u32
-    requires { ⌜ Packed n (now packed) × SmallSums n (now m) × (x < n) × (e ≤ 2 * P most-leaves) ⌝ }
+    requires { ⌜ Packed n (now packed) × SmallSums n (now m) × (x < n) × (e ≤ 2 * largest-sum) ⌝ }
     ensures { λ r. ⌜ r
         ≡ count-below n (mismatch-at n (table-with n (packed-cells n (now (packed .entry))))
         (now (label .entry)) (now (m .entry)) x b e) ⌝ }
@@ -101,7 +100,7 @@ fn row_wrong(
     e: u32,
 ) -> u32
     requires { ⌜ (n ≤ most-leaves) × (length (lent-table n (now table) (now packed)) ≡ n * n) × SmallSums n (now m)
-        × (x < n) × (e ≤ 2 * P most-leaves) ⌝ }
+        × (x < n) × (e ≤ 2 * largest-sum) ⌝ }
     ensures { λ r. ⌜ r ≡ count-below n (mismatch-at n (lent-table n (now (table .entry)) (now (packed .entry)))
         (now (label .entry)) (now (m .entry)) x b e) ⌝ }
 {
@@ -125,7 +124,7 @@ fn block_fits(
     e: u32,
 ) -> bool
     requires { ⌜ (n ≤ most-leaves) × (length (lent-table n (now table) (now packed)) ≡ n * n) × SmallSums n (now m)
-        × (e ≤ P most-leaves) ⌝ }
+        × (e ≤ largest-sum) ⌝ }
     ensures { λ r. ⌜ (r ≡ true) ↔ BlockFits n (lent-table n (now (table .entry)) (now (packed .entry)))
         (now (label .entry)) (now (m .entry)) a b e ⌝ }
 {
@@ -150,14 +149,14 @@ pub fn pair_fits(
     label: &[u32; MOST_LEAVES],
     m: &[u32; MOST_LEAVES],
     sizes: &[usize; MOST_LEAVES],
-    p: &[u32; MOST_LEAVES + 1],
+    p: &[u32; LEAF_COUNTS],
     a: usize,
     b: usize,
 ) -> bool
     requires { ⌜ TwoLabels n (lent-table n (now table) (now packed)) (now label) (now m) (now sizes) (now p) a b ⌝ }
     ensures { λ r. ⌜ (r ≡ true)
         ↔ SubtreesFit n (lent-table n (now (table .entry)) (now (packed .entry)))
-        (now (label .entry)) (now (m .entry)) (now (sizes .entry)) a b ⌝ }
+        (now (label .entry)) (now (m .entry)) (now (sizes .entry)) (now (p .entry)) a b ⌝ }
 {
     let first = sizes[a];
     let second = sizes[b];

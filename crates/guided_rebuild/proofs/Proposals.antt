@@ -39,39 +39,39 @@ use Rattle.state_arrays.proofs.StateArrays.{fits-eligible, eligible-fits, fair,
 
 -- a proposal that is not eligible merges nothing
 pub proposal-refused :
-    {n : ℕ} {table label m sizes label′ m′ sizes′ : List ℕ} {i j : ℕ}
-    → ((S : State) → HoldsReached n table label m sizes S → Eligible n 1 (cell n table) S i j → ⊥)
-    → Proposed n table label m sizes label′ m′ sizes′ i j false
-proposal-refused {n} {table} {i = i} {j = j} deny = record {
-  told = λ S s. sym (is-false (eligible n 1 (cell n table) S i j) (λ e.
-      deny S s (eligible-sound 1 (cell n table) (wf-runs (wf-start n) (s .came)) i j e)));
+    {n s : ℕ} {table label m sizes label′ m′ sizes′ : List ℕ} {i j : ℕ}
+    → ((S : State) → HoldsReached n s table label m sizes S → Eligible n s (cell n table) S i j → ⊥)
+    → Proposed n s table label m sizes label′ m′ sizes′ i j false
+proposal-refused {n} {s} {table} {i = i} {j = j} deny = record {
+  told = λ S u. sym (is-false (eligible n s (cell n table) S i j) (λ e.
+      deny S u (eligible-sound s (cell n table) (wf-runs (wf-start n) (u .came)) i j e)));
   merged = λ e. absurd (never e refl);
 }
 
 -- one that is eligible is merged
 pub proposal-accepted :
-    {n : ℕ} {table label m sizes label′ m′ sizes′ : List ℕ} {i j : ℕ}
-    → ((S : State) → HoldsReached n table label m sizes S
-    → Eligible n 1 (cell n table) S i j × HoldsState n label′ m′ sizes′ (step S i j))
-    → Proposed n table label m sizes label′ m′ sizes′ i j true
+    {n s : ℕ} {table label m sizes label′ m′ sizes′ : List ℕ} {i j : ℕ}
+    → ((S : State) → HoldsReached n s table label m sizes S
+    → Eligible n s (cell n table) S i j × HoldsState n s label′ m′ sizes′ (step S i j))
+    → Proposed n s table label m sizes label′ m′ sizes′ i j true
 proposal-accepted {i = i} {j = j} h = record {
-  told = λ S s. sym (eligible-complete (h S s .0));
-  merged = λ e S s. record { came = runs-more (s .came) i j (h S s .0); holds = h S s .1 };
+  told = λ S u. sym (eligible-complete (h S u .0));
+  merged = λ e S u. record { came = runs-more (u .came) i j (h S u .0); holds = h S u .1 };
 }
 
 -- Two labels, in a state that the arrays hold.
-module _ {n : ℕ} {table p label m sizes : List ℕ} {a b : ℕ} (q : Labels n table label m sizes p a b) {S : State}
-    (s : HoldsReached n table label m sizes S) where
+module _ {n s : ℕ} {table p label m sizes : List ℕ} {a b : ℕ} (q : Labels n s table label m sizes p a b) {S : State}
+    (u : HoldsReached n s table label m sizes S) where
   w : WellFormed n S
-  w = wf-runs (wf-start n) (s .came)
+  w = wf-runs (wf-start n) (u .came)
 
-  pub one-label : a ≡ b → Eligible n 1 (cell n table) S a b → ⊥
+  pub one-label : a ≡ b → Eligible n s (cell n table) S a b → ⊥
   one-label e f = never (w .own b) (rw e at (f .apart))
 
   module _ (d : a ≢ b) where
     pub two-labels : TwoLabels n table label m sizes p a b
     two-labels = record {
-      fair = fair w (s .holds) (s .came) (q .given);
+      fair = fair w (u .holds) (u .came) (q .given);
       first = q .first;
       second = q .second;
       differ = d;
@@ -80,38 +80,39 @@ module _ {n : ℕ} {table p label m sizes : List ℕ} {a b : ℕ} (q : Labels n 
     }
 
     pub merges-up : MergeReady n label m sizes p a b
-    merges-up = two-merges w (s .holds) two-labels
+    merges-up = two-merges w (u .holds) two-labels
 
     pub merges-down : MergeReady n label m sizes p b a
-    merges-down = two-merges w (s .holds) (two-turned two-labels)
+    merges-down = two-merges w (u .holds) (two-turned two-labels)
 
-    pub labels-fit : Eligible n 1 (cell n table) S a b → SubtreesFit n table label m sizes a b
-    labels-fit = eligible-fits w (s .holds) table a b (q .first) (q .second) (q .own-first) (q .own-second)
+    pub labels-fit : Eligible n s (cell n table) S a b → SubtreesFit n table label m sizes p a b
+    labels-fit = eligible-fits w (u .holds) (q .given) a b (q .first) (q .second) (q .own-first) (q .own-second)
 
     -- Where the labels meet, the pair is eligible, and the arrays after a merge of the two, the smaller one first, hold
     -- the next state.
     abbrev Next : (label′ m′ sizes′ : List ℕ) → Type 0
-    Next label′ m′ sizes′ = Eligible n 1 (cell n table) S a b × HoldsState n label′ m′ sizes′ (step S a b)
+    Next label′ m′ sizes′ = Eligible n s (cell n table) S a b × HoldsState n s label′ m′ sizes′ (step S a b)
 
-    module _ (meets : SubtreesFit n table label m sizes a b) where
-      pair : Eligible n 1 (cell n table) S a b
-      pair = fits-eligible w (s .holds) table a b (q .first) (q .second) (q .own-first) (q .own-second) d meets
+    module _ (meets : SubtreesFit n table label m sizes p a b) where
+      pair : Eligible n s (cell n table) S a b
+      pair = fits-eligible w (u .holds) (q .given) a b (q .first) (q .second) (q .own-first) (q .own-second) d meets
 
       pub merged-up :
-          {label′ m′ sizes′ : List ℕ} → a < b → Merged n label m sizes label′ m′ sizes′ a b → Next label′ m′ sizes′
+          {label′ m′ sizes′ : List ℕ} → a < b → Merged n label m sizes p label′ m′ sizes′ a b → Next label′ m′ sizes′
       merged-up l e =
-          (pair, holds-step w (s .holds) a b l (q .own-first) (q .own-second) pair (q .given .leaf-count .1) e)
+          (pair, holds-step w (u .holds) a b l (q .own-first) (q .own-second) pair (q .given) e)
 
       pub merged-down :
-          {label′ m′ sizes′ : List ℕ} → b < a → Merged n label m sizes label′ m′ sizes′ b a → Next label′ m′ sizes′
+          {label′ m′ sizes′ : List ℕ} → b < a → Merged n label m sizes p label′ m′ sizes′ b a → Next label′ m′ sizes′
       merged-down l e =
           let turned = eligible-sym (halves-equal (q .given .is-table)) w a b pair in
-          let h = holds-step w (s .holds) b a l (q .own-second) (q .own-first) turned (q .given .leaf-count .1) e in
+          let h = holds-step w (u .holds) b a l (q .own-second) (q .own-first) turned (q .given) e in
           (pair, rw (step-sym w a b pair) h)
 
 -- Two leaves i and j, and their labels a and b: the proposal of the leaves is that of the labels.
-module _ {n : ℕ} {table p label m sizes : List ℕ} (g : Given n table p) (st : HoldsSomeReached n table label m sizes)
-    {i j a b : ℕ} (li : i < n) (lj : j < n) (ea : a ≡ getD label i 0) (eb : b ≡ getD label j 0) where
+module _ {n s : ℕ} {table p label m sizes : List ℕ} (g : Given n s table p)
+    (st : HoldsSomeReached n s table label m sizes) {i j a b : ℕ}
+    (li : i < n) (lj : j < n) (ea : a ≡ getD label i 0) (eb : b ≡ getD label j 0) where
   -- the label x of leaf k, in a state that the arrays hold
   record Label (S : State) (k x : ℕ) : Type 0 where
     pub within : x < n
@@ -119,19 +120,19 @@ module _ {n : ℕ} {table p label m sizes : List ℕ} (g : Given n table p) (st 
     pub outside : leaves (S .tree x) k ≡ true
     pub own : getD label x 0 ≡ x
 
-  label-of : {S : State} → HoldsReached n table label m sizes S → (k x : ℕ) → k < n → x ≡ getD label k 0 → Label S k x
-  label-of {S} s k x lk e = record {
+  label-of : {S : State} → HoldsReached n s table label m sizes S → (k x : ℕ) → k < n → x ≡ getD label k 0 → Label S k x
+  label-of {S} u k x lk e = record {
     within = lx;
     inside = x-in;
     outside = rw (w .closed k x x-in) (w .own k);
-    own = s .holds .labels x lx ∙ ap least (w .closed k x x-in) ∙ sym is-least;
+    own = u .holds .labels x lx ∙ ap least (w .closed k x x-in) ∙ sym is-least;
   }
     where
       w : WellFormed n S
-      w = wf-runs (wf-start n) (s .came)
+      w = wf-runs (wf-start n) (u .came)
 
       is-least : x ≡ least (S .tree k)
-      is-least = e ∙ s .holds .labels k lk
+      is-least = e ∙ u .holds .labels k lk
 
       x-in : leaves (S .tree k) x ≡ true
       x-in = rw is-least (least-in (S .tree k))
@@ -139,7 +140,7 @@ module _ {n : ℕ} {table p label m sizes : List ℕ} (g : Given n table p) (st 
       lx : x < n
       lx = w .below k x lk x-in
 
-  pub labels-of : Labels n table label m sizes p a b
+  pub labels-of : Labels n s table label m sizes p a b
   labels-of =
       let A = label-of (st .stands) i a li ea in
       let B = label-of (st .stands) j b lj eb in
@@ -153,34 +154,34 @@ module _ {n : ℕ} {table p label m sizes : List ℕ} (g : Given n table p) (st 
       }
 
   pub proposed-move :
-      {label′ m′ sizes′ : List ℕ} {r : Bool} → Proposed n table label m sizes label′ m′ sizes′ a b r
-      → Proposed n table label m sizes label′ m′ sizes′ i j r
+      {label′ m′ sizes′ : List ℕ} {r : Bool} → Proposed n s table label m sizes label′ m′ sizes′ a b r
+      → Proposed n s table label m sizes label′ m′ sizes′ i j r
   proposed-move q = record {
-    told = λ S s.
-        let w = wf-runs (wf-start n) (s .came) in
-        let A = label-of s i a li ea in
-        let B = label-of s j b lj eb in
+    told = λ S u.
+        let w = wf-runs (wf-start n) (u .came) in
+        let A = label-of u i a li ea in
+        let B = label-of u j b lj eb in
         let c = cell n table in
-        q .told S s
+        q .told S u
         ∙ bool-iff _ _
-        (λ e. eligible-complete (eligible-move w a b i j li lj (A .inside) (B .inside) (eligible-sound 1 c w a b e)))
+        (λ e. eligible-complete (eligible-move w a b i j li lj (A .inside) (B .inside) (eligible-sound s c w a b e)))
         (λ e.
         eligible-complete
-        (eligible-move w i j a b (A .within) (B .within) (A .outside) (B .outside) (eligible-sound 1 c w i j e)));
-    merged = λ e S s.
-        let w = wf-runs (wf-start n) (s .came) in
-        let A = label-of s i a li ea in
-        let B = label-of s j b lj eb in
-        rw (step-move w a b i j (A .inside) (B .inside)) at (q .merged e S s);
+        (eligible-move w i j a b (A .within) (B .within) (A .outside) (B .outside) (eligible-sound s c w i j e)));
+    merged = λ e S u.
+        let w = wf-runs (wf-start n) (u .came) in
+        let A = label-of u i a li ea in
+        let B = label-of u j b lj eb in
+        rw (step-move w a b i j (A .inside) (B .inside)) at (q .merged e S u);
   }
 
 -- The proposals one after the other: after k of them the arrays stand for a state, from which the rest goes on as the
 -- whole list does from the start.
-pub record StepsAccepted (n : ℕ) (table merges label m sizes : List ℕ) (k : ℕ) : Type 0 where
+pub record StepsAccepted (n s : ℕ) (table merges label m sizes : List ℕ) (k : ℕ) : Type 0 where
   pub long : length merges ≡ 2 * (n - 1)
   pub state : State
-  pub stands : HoldsReached n table label m sizes state
-  pub rest : stop-at k n 1 table state (drop k (proposals merges)) ≡ stop-at 0 n 1 table start (proposals merges)
+  pub stands : HoldsReached n s table label m sizes state
+  pub rest : stop-at k n s table state (drop k (proposals merges)) ≡ stop-at 0 n s table start (proposals merges)
 
 proposal :
     (n : ℕ) (l : List ℕ) → length l ≡ 2 * (n - 1) → (k : ℕ) → k < n - 1
@@ -193,9 +194,10 @@ proposal n l e k h = drop-cons (proposals l) k (0, 0) inside ∙ rw at-k
     at-k : getD (proposals l) k (0, 0) ≡ (getD l (2 * k) 0, getD l (2 * k + 1) 0)
     at-k = unfold proposals in getD-tab (length l / 2) _ k (0, 0) (omega arith)
 
-module _ {n : ℕ} {table merges label m sizes : List ℕ} {k : ℕ} (f : StepsAccepted n table merges label m sizes k) where
+module _ {n s : ℕ} {table merges label m sizes : List ℕ} {k : ℕ}
+    (f : StepsAccepted n s table merges label m sizes k) where
   -- all are accepted
-  pub steps-end : n - 1 ≤ k → stop-at 0 n 1 table start (proposals merges) ≡ none
+  pub steps-end : n - 1 ≤ k → stop-at 0 n s table start (proposals merges) ≡ none
   steps-end h = sym (f .rest) ∙ rw (drop-of-length-le (proposals merges) few) (unfold stop-at in refl)
     where
       few : length (proposals merges) ≤ k
@@ -204,19 +206,19 @@ module _ {n : ℕ} {table merges label m sizes : List ℕ} {k : ℕ} (f : StepsA
   -- the k-th names i and j
   module _ (h : k < n - 1) {i j : ℕ} (ei : i ≡ getD merges (2 * k) 0) (ej : j ≡ getD merges (2 * k + 1) 0) where
     next :
-        stop-at k n 1 table (f .state) ((i, j) ∷ drop (suc k) (proposals merges))
-        ≡ stop-at 0 n 1 table start (proposals merges)
+        stop-at k n s table (f .state) ((i, j) ∷ drop (suc k) (proposals merges))
+        ≡ stop-at 0 n s table start (proposals merges)
     next = rw (ei, ej) (rw (proposal n merges (f .long) k h) at (f .rest))
 
-    module _ {label′ m′ sizes′ : List ℕ} {r : Bool} (q : Proposed n table label m sizes label′ m′ sizes′ i j r) where
-      told : r ≡ eligible n 1 (cell n table) (f .state) i j
+    module _ {label′ m′ sizes′ : List ℕ} {r : Bool} (q : Proposed n s table label m sizes label′ m′ sizes′ i j r) where
+      told : r ≡ eligible n s (cell n table) (f .state) i j
       told = q .told (f .state) (f .stands)
 
-      pub step-refused : r ≡ false → stop-at 0 n 1 table start (proposals merges) ≡ some k
+      pub step-refused : r ≡ false → stop-at 0 n s table start (proposals merges) ≡ some k
       unfolding stop-at
       step-refused e = sym next ∙ rw (sym told ∙ e, stop-at)
 
-      pub step-accepted : r ≡ true → StepsAccepted n table merges label′ m′ sizes′ (k + 1)
+      pub step-accepted : r ≡ true → StepsAccepted n s table merges label′ m′ sizes′ (k + 1)
       unfolding stop-at
       step-accepted e = record {
         long = f .long;
@@ -226,13 +228,13 @@ module _ {n : ℕ} {table merges label m sizes : List ℕ} {k : ℕ} (f : StepsA
       }
 
 -- What that says of the guided rebuild.
-module _ {n : ℕ} {table merges : List ℕ} {k : ℕ} (s : Stopped n table merges k) where
-  pub guided-at : k < n - 1 → guided n 1 table (proposals merges) ≡ refused (Proposal k)
-  guided-at l = stop-refused n 1 table (proposals merges) k (s .refused l)
+module _ {n s : ℕ} {table merges : List ℕ} {k : ℕ} (stopped : Stopped n s table merges k) where
+  pub guided-at : k < n - 1 → guided n s table (proposals merges) ≡ refused (Proposal k)
+  guided-at l = stop-refused n s table (proposals merges) k (stopped .refused l)
 
   pub guided-whole :
-      IsLeafCount n → IsTable n table → length merges ≡ 2 * (n - 1) → n - 1 ≤ k
-      → guided n 1 table (proposals merges) ≡ rebuilt n 1 table
-  guided-whole count is-table long l =
-      guided-own n count 1 (omega arith) table is-table (proposals merges) (many-proposals n merges long)
-      (stop-eligible n 1 table (proposals merges) (s .accepted l))
+      IsLeafCount n → 0 < s → IsTable n table → length merges ≡ 2 * (n - 1) → n - 1 ≤ k
+      → guided n s table (proposals merges) ≡ rebuilt n s table
+  guided-whole count sp is-table long l =
+      guided-own n count s sp table is-table (proposals merges) (many-proposals n merges long)
+      (stop-eligible n s table (proposals merges) (stopped .accepted l))

@@ -1,13 +1,16 @@
 // The guided rebuild: the proposals are followed one after the other, as far as each names an eligible pair.
 use eligible_pairs::pair_fits;
 use limits::Kind;
+use limits::LEAF_COUNTS;
 use limits::MOST_LEAVES;
+use numbers::index_of_u16;
+use numbers::index_of_u32;
+use numbers::own_numbers;
 use own_rebuild::rebuild_checked;
 use refusals::Outcome;
 use refusals::Refusal;
-use state_arrays::index_of_u32;
-use state_arrays::label_leaves;
 use state_arrays::merge;
+use state_arrays::scaled_counts;
 ghost use mathlib.Core.Path.{_≡_};
 ghost use Prim.Native.Nat.{_-_, _*_, _<_, _≤_};
 ghost use lib.ListN.{length, getD};
@@ -19,7 +22,7 @@ ghost use Rattle.merging.specs.Merging.{start};
 ghost use Rattle.merging.specs.Rebuilds.{guided};
 ghost use Rattle.rebuild_answers.specs.Operations.{proposals, guided-answer};
 ghost use Rattle.rebuild_answers.specs.Meanings.{GuidedMeans};
-ghost use Rattle.state_arrays.specs.inner.Fits.{Given};
+ghost use Rattle.state_arrays.specs.inner.Fits.{IsScale, scale-of, Given};
 ghost use Rattle.guided_rebuild.specs.inner.Proposals.{HoldsReached, HoldsSomeReached, Labels, Proposed, Stopped};
 
 // The proposal to merge the subtrees labelled `a` and `b`: whether these are two, and eligible. If so, they are merged.
@@ -29,12 +32,13 @@ fn try_merge(
     label: &mut [u32; MOST_LEAVES],
     m: &mut [u32; MOST_LEAVES],
     sizes: &mut [usize; MOST_LEAVES],
-    p: &[u32; MOST_LEAVES + 1],
+    p: &[u32; LEAF_COUNTS],
     a: usize,
     b: usize,
 ) -> bool
-    requires { ⌜ Labels n (now table) (now label) (now m) (now sizes) (now p) a b ⌝ }
-    ensures { λ r. ⌜ Proposed n (now (table .entry)) (now (label .entry)) (now (m .entry)) (now (sizes .entry))
+    requires { ⌜ Labels n (scale-of (now p)) (now table) (now label) (now m) (now sizes) (now p) a b ⌝ }
+    ensures { λ r. ⌜ Proposed n (scale-of (now (p .entry))) (now (table .entry))
+        (now (label .entry)) (now (m .entry)) (now (sizes .entry))
         (now (label .exit)) (now (m .exit)) (now (sizes .exit)) a b r ⌝ }
 {
     if a == b {
@@ -58,12 +62,14 @@ fn propose(
     label: &mut [u32; MOST_LEAVES],
     m: &mut [u32; MOST_LEAVES],
     sizes: &mut [usize; MOST_LEAVES],
-    p: &[u32; MOST_LEAVES + 1],
+    p: &[u32; LEAF_COUNTS],
     i: usize,
     j: usize,
 ) -> bool
-    requires { ⌜ Given n (now table) (now p) × HoldsSomeReached n (now table) (now label) (now m) (now sizes) ⌝ }
-    ensures { λ r. ⌜ Proposed n (now (table .entry)) (now (label .entry)) (now (m .entry)) (now (sizes .entry))
+    requires { ⌜ Given n (scale-of (now p)) (now table) (now p)
+        × HoldsSomeReached n (scale-of (now p)) (now table) (now label) (now m) (now sizes) ⌝ }
+    ensures { λ r. ⌜ Proposed n (scale-of (now (p .entry))) (now (table .entry))
+        (now (label .entry)) (now (m .entry)) (now (sizes .entry))
         (now (label .exit)) (now (m .exit)) (now (sizes .exit)) i j r ⌝ }
 {
     if n <= i {
@@ -75,13 +81,6 @@ fn propose(
     let a = index_of_u32(label[i]);
     let b = index_of_u32(label[j]);
     try_merge(n, table, label, m, sizes, p, a, b)
-}
-
-// A proposed leaf as an index of the arrays.
-fn index_of_u16(x: u16) -> usize
-    ensures { λ r. ⌜ r ≡ x ⌝ }
-{
-    x as usize
 }
 
 // The leaf at a place of the proposals.
@@ -100,11 +99,11 @@ fn accepted_steps(
     label: &mut [u32; MOST_LEAVES],
     m: &mut [u32; MOST_LEAVES],
     sizes: &mut [usize; MOST_LEAVES],
-    p: &[u32; MOST_LEAVES + 1],
+    p: &[u32; LEAF_COUNTS],
 ) -> usize
-    requires { ⌜ Given n (now table) (now p) × (length (now merges) ≡ 2 * (n - 1))
-        × HoldsReached n (now table) (now label) (now m) (now sizes) start ⌝ }
-    ensures { λ k. ⌜ Stopped n (now (table .entry)) (now (merges .entry)) k ⌝ }
+    requires { ⌜ Given n (scale-of (now p)) (now table) (now p) × (length (now merges) ≡ 2 * (n - 1))
+        × HoldsReached n (scale-of (now p)) (now table) (now label) (now m) (now sizes) start ⌝ }
+    ensures { λ k. ⌜ Stopped n (scale-of (now (p .entry))) (now (table .entry)) (now (merges .entry)) k ⌝ }
 {
     let steps = n - 1;
     let mut k: usize = 0;
@@ -119,26 +118,26 @@ fn accepted_steps(
     steps
 }
 
-// The guided rebuild of a table that has passed the checks placed before 12. Step k proposes to merge the subtrees that
-// hold the leaves at 2 k and 2 k + 1. Where all are accepted, our own rebuild writes the listing of the same tree; else
-// 12 with the first that is not, and `out` as it was.
-fn guided_checked(n: usize, table: &[u32], merges: &[u16], out: &mut [u16]) -> Outcome
-    requires { ⌜ IsLeafCount n × IsTable n (now table) × (2 * (n - 2) ≤ length (now out))
+// The guided rebuild of a table at this scale that has passed the checks placed before 12. Step k proposes to merge the
+// subtrees that hold the leaves at 2 k and 2 k + 1. Where all are accepted, our own rebuild writes the listing of the
+// same tree; else 12 with the first that is not, and `out` as it was.
+fn guided_checked(n: usize, scale: u32, table: &[u32], merges: &[u16], out: &mut [u16]) -> Outcome
+    requires { ⌜ IsLeafCount n × IsScale scale × IsTable n (now table) × (2 * (n - 2) ≤ length (now out))
         × (length (now merges) ≡ 2 * (n - 1)) ⌝ }
-    ensures answer { λ r. ⌜ r ≡ outcome (guided n 1 (now (table .entry)) (proposals (now (merges .entry)))) ⌝ }
+    ensures answer { λ r. ⌜ r ≡ outcome (guided n scale (now (table .entry)) (proposals (now (merges .entry)))) ⌝ }
     ensures buffer { λ _. ⌜ now (out .exit)
-        ≡ written (guided n 1 (now (table .entry)) (proposals (now (merges .entry)))) (now (out .entry)) ⌝ }
+        ≡ written (guided n scale (now (table .entry)) (proposals (now (merges .entry)))) (now (out .entry)) ⌝ }
 {
-    let p = pair_counts::pair_counts();
+    let p = scaled_counts(n, scale);
     let mut label: [u32; MOST_LEAVES] = [0; MOST_LEAVES];
     let mut m: [u32; MOST_LEAVES] = [0; MOST_LEAVES];
     let mut sizes: [usize; MOST_LEAVES] = [1; MOST_LEAVES];
-    label_leaves(n, &mut label);
+    own_numbers(n, &mut label);
     let k = accepted_steps(n, table, merges, &mut label, &mut m, &mut sizes, &p);
     if k < n - 1 {
         return Outcome::Refused(Refusal::Proposal(k));
     }
-    rebuild_checked(n, table, b"", out)
+    rebuild_checked(n, scale, table, b"", out)
 }
 
 // How many leaves n - 1 proposals name; 0 where no tree has n leaves.
@@ -170,5 +169,5 @@ pub fn rebuild_guided(n: usize, table: &[u32], merges: &[u16], out: &mut [u16]) 
     let Outcome::Done = judged else {
         return judged;
     };
-    guided_checked(n, table, merges, out)
+    guided_checked(n, 1, table, merges, out)
 }

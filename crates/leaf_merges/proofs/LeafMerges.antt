@@ -30,29 +30,20 @@ use Rattle.state_arrays.specs.inner.Fits.{Given, SizesFit}
 use Rattle.leaf_merges.specs.inner.Partners.{Joins}
 use Rattle.state_arrays.specs.inner.Merged.{MergeReady, Merged}
 use Rattle.state_arrays.specs.inner.StateArrays.{HoldsState}
-use Rattle.leaf_merges.specs.inner.LeafMerges.{UnusedNumber, Listed, Current, MergingLeaf, LeavesMerged, Fresh}
+use Rattle.leaf_merges.specs.inner.LeafMerges.{UnusedNumber, Listed, Current, MergingLeaf, LeavesMerged}
 use Rattle.state_arrays.proofs.StateArrays.{is-least, fits-eligible, eligible-fits, fair, two-merges, still}
 use Rattle.state_arrays.proofs.StateArrays.{holds-step, filled-own, filled-long, holds-start}
 use Rattle.leaf_merges.proofs.AddedRows.{row-kept, node-unused, still-unused, subtree-at-new, subtree-at-old}
 
--- there is room for one more row
-pub row-room :
-    {n : ℕ} {S : State} → WellFormed n S → {label names rows : List ℕ} {r : ℕ} → Listed n label names rows r S
-    → {c : ℕ → ℕ → ℕ} (i k : ℕ) → Eligible n 1 c S i k → r + 2 ≤ n
-row-room {n} w l i k e =
-    let z : 0 < n = omega (arith, e .left) in
-    omega (arith, l .counted, subtrees-step w i k e, subtrees-pos (wf-go w i k e) z)
-
--- The rows after a merge of the subtrees labelled i and k, 0 < i < k.
-module _ {n : ℕ} {S : State} (w : WellFormed n S) {label m sizes names rows : List ℕ} {r : ℕ}
-    (h : HoldsState n label m sizes S) (l : Listed n label names rows r S) {c : ℕ → ℕ → ℕ} (i k : ℕ) (zi : 0 < i)
-    (ik : i < k) (oi : getD label i 0 ≡ i) (ok : getD label k 0 ≡ k) (e : Eligible n 1 c S i k)
-    (few : n ≤ most-leaves) {label′ m′ sizes′ : List ℕ} (d : Merged n label m sizes label′ m′ sizes′ i k) where
-  room : r + 2 ≤ n
-  room = row-room w l i k e
-
-  abbrev names′ : List ℕ
-  names′ = set names i (n + r)
+-- The subtrees labelled i and k, 0 < i < k, which are to be merged.
+module _ {n s : ℕ} {S : State} (w : WellFormed n S) {label m sizes names rows : List ℕ} {r : ℕ}
+    (h : HoldsState n s label m sizes S) (l : Listed n label names rows r S) {c : ℕ → ℕ → ℕ} (i k : ℕ) (zi : 0 < i)
+    (ik : i < k) (oi : getD label i 0 ≡ i) (ok : getD label k 0 ≡ k) (e : Eligible n s c S i k) where
+  -- there is room for one more row
+  pub row-room : r + 2 ≤ n
+  row-room =
+      let z : 0 < n = omega (arith, e .left) in
+      omega (arith, l .counted, subtrees-step w i k e, subtrees-pos (wf-go w i k e) z)
 
   abbrev a : ℕ
   a = getD names i 0
@@ -60,27 +51,8 @@ module _ {n : ℕ} {S : State} (w : WellFormed n S) {label m sizes names rows : 
   abbrev b : ℕ
   b = getD names k 0
 
-  abbrev rows₁ : List ℕ
-  rows₁ = set rows (2 * r) a
-
-  abbrev rows′ : List ℕ
-  rows′ = set rows₁ (2 * r + 1) b
-
   abbrev old : List ℕ
   old = take (2 * r) rows
-
-  long : length old ≡ 2 * r
-  long = length-take-le (2 * r) rows (omega (arith, l .rows-long, room))
-
-  -- the rows written are the old ones and the new one
-  added : take (2 * (r + 1)) rows′ ≡ old ++ (a ∷ b ∷ [])
-  added =
-      let next : 2 * (r + 1) ≡ suc (suc (2 * r)) = omega arith in
-      let inside : suc (2 * r) < length rows₁ = omega (arith, length-set rows (2 * r) a, l .rows-long, room) in
-      rw (next, add-one (2 * r))
-      (take-suc-set rows₁ (suc (2 * r)) b inside
-      ∙ rw (take-suc-set rows (2 * r) a (omega (arith, l .rows-long, room)))
-      (append-snoc old a (b ∷ [])))
 
   -- the name of a label comes before the new node, and two labels have two
   abbrev Name : ℕ → Type 0
@@ -92,52 +64,81 @@ module _ {n : ℕ} {S : State} (w : WellFormed n S) {label m sizes names rows : 
   name-k : Name k
   name-k = l .named k (omega arith) (e .right) ok
 
-  below : (x : ℕ) → Name x → getD names x 0 < n + r
-  below x u =
-      lawful-forest (forest-start n (omega (arith, room))) r old long (l .kept) .below (getD names x 0) (u .0)
-
   differ :
       (x y : ℕ) → x < n → y < n → getD label x 0 ≡ x → getD label y 0 ≡ y → Name x → Name y → x ≢ y
       → getD names x 0 ≢ getD names y 0
   differ x y lx ly ox oy u v z q =
       z (sym (is-least w h x lx ox) ∙ ap least (sym (u .1) ∙ ap (subtree-at n old) q ∙ v .1) ∙ is-least w h y ly oy)
 
-  new-node : subtree-at n (old ++ (a ∷ b ∷ [])) (n + r) ≡ (step S i k) .tree i
-  new-node =
-      let less : least (S .tree i) < least (S .tree k) =
-      rw (is-least w h i (e .left) oi, is-least w h k (e .right) ok) ik in
-      subtree-at-new n r old long a b
-      ∙ rw (name-i .1, name-k .1, step-in S i k i (or-left _ _ (w .own i)))
-      (sym (join-in-order (S .tree i) (S .tree k) less))
+  module _ (few : n ≤ most-leaves) where
+    long : length old ≡ 2 * r
+    long = length-take-le (2 * r) rows (omega (arith, l .rows-long, row-room))
 
-  named′ :
-      (x : ℕ) → 0 < x → x < n → getD label′ x 0 ≡ x
-      → UnusedNumber n (old ++ (a ∷ b ∷ [])) (getD names′ x 0) ((step S i k) .tree x)
-  named′ x zx lx o = elim (ℕ-discrete x i) [
-    | yes z ↦
-        let own-name = getD-set-same names i (n + r) 0 (omega (arith, l .names-long, e .left)) in
-        rw (z, own-name) (node-unused n r old long a b, new-node)
-    | no z ↦
-        let u = still w h i k ik oi ok e few d x lx o z in
-        let v = l .named x zx lx (u .0) in
-        let not-i = differ x i lx (e .left) (u .0) oi v name-i z in
-        let not-k = differ x k lx (e .right) (u .0) ok v name-k (u .1) in
-        rw (getD-set-other names i x (n + r) 0 z, u .2) (
-          still-unused n r old long a b (getD names x 0) (v .0) not-i not-k,
-          subtree-at-old n r old long a b (getD names x 0) (below x v) ∙ v .1,
-        )
-  ]
+    below : (x : ℕ) → Name x → getD names x 0 < n + r
+    below x u =
+        lawful-forest (forest-start n (omega (arith, row-room))) r old long (l .kept) .below (getD names x 0) (u .0)
 
-  pub listed-step : Listed n label′ names′ rows′ (r + 1) (step S i k)
-  listed-step = record {
-    names-long = length-set names i (n + r) ∙ l .names-long;
-    rows-long = length-set rows₁ (2 * r + 1) b ∙ length-set rows (2 * r) a ∙ l .rows-long;
-    kept =
-        let apart-names = differ i k (e .left) (e .right) oi ok name-i name-k (omega arith) in
-        rw added (row-kept n r old long a b (l .kept) (name-i .0) (name-k .0) apart-names);
-    named = rw added named′;
-    counted = omega (arith, l .counted, subtrees-step w i k e);
-  }
+    pub names-small : (a < 2 * most-leaves) × (b < 2 * most-leaves)
+    names-small = (omega (arith, below i name-i, row-room), omega (arith, below k name-k, row-room))
+
+    -- The rows after the merge.
+    abbrev names′ : List ℕ
+    names′ = set names i (n + r)
+
+    abbrev rows₁ : List ℕ
+    rows₁ = set rows (2 * r) a
+
+    abbrev rows′ : List ℕ
+    rows′ = set rows₁ (2 * r + 1) b
+
+    -- the rows written are the old ones and the new one
+    added : take (2 * (r + 1)) rows′ ≡ old ++ (a ∷ b ∷ [])
+    added =
+        let next : 2 * (r + 1) ≡ suc (suc (2 * r)) = omega arith in
+        let inside : suc (2 * r) < length rows₁ = omega (arith, length-set rows (2 * r) a, l .rows-long, row-room) in
+        rw (next, add-one (2 * r))
+        (take-suc-set rows₁ (suc (2 * r)) b inside
+        ∙ rw (take-suc-set rows (2 * r) a (omega (arith, l .rows-long, row-room)))
+        (append-snoc old a (b ∷ [])))
+
+    new-node : subtree-at n (old ++ (a ∷ b ∷ [])) (n + r) ≡ (step S i k) .tree i
+    new-node =
+        let less : least (S .tree i) < least (S .tree k) =
+        rw (is-least w h i (e .left) oi, is-least w h k (e .right) ok) ik in
+        subtree-at-new n r old long a b
+        ∙ rw (name-i .1, name-k .1, step-in S i k i (or-left _ _ (w .own i)))
+        (sym (join-in-order (S .tree i) (S .tree k) less))
+
+    module _ {t p : List ℕ} (g : Given n s t p) {label′ m′ sizes′ : List ℕ}
+        (d : Merged n label m sizes p label′ m′ sizes′ i k) where
+      named′ :
+          (x : ℕ) → 0 < x → x < n → getD label′ x 0 ≡ x
+          → UnusedNumber n (old ++ (a ∷ b ∷ [])) (getD names′ x 0) ((step S i k) .tree x)
+      named′ x zx lx o = elim (ℕ-discrete x i) [
+        | yes z ↦
+            let own-name = getD-set-same names i (n + r) 0 (omega (arith, l .names-long, e .left)) in
+            rw (z, own-name) (node-unused n r old long a b, new-node)
+        | no z ↦
+            let u = still w h i k ik oi ok e g d x lx o z in
+            let v = l .named x zx lx (u .0) in
+            let not-i = differ x i lx (e .left) (u .0) oi v name-i z in
+            let not-k = differ x k lx (e .right) (u .0) ok v name-k (u .1) in
+            rw (getD-set-other names i x (n + r) 0 z, u .2) (
+              still-unused n r old long a b (getD names x 0) (v .0) not-i not-k,
+              subtree-at-old n r old long a b (getD names x 0) (below x v) ∙ v .1,
+            )
+      ]
+
+      pub listed-step : Listed n label′ names′ rows′ (r + 1) (step S i k)
+      listed-step = record {
+        names-long = length-set names i (n + r) ∙ l .names-long;
+        rows-long = length-set rows₁ (2 * r + 1) b ∙ length-set rows (2 * r) a ∙ l .rows-long;
+        kept =
+            let apart-names = differ i k (e .left) (e .right) oi ok name-i name-k (omega arith) in
+            rw added (row-kept n r old long a b (l .kept) (name-i .0) (name-k .0) apart-names);
+        named = rw added named′;
+        counted = omega (arith, l .counted, subtrees-step w i k e);
+      }
 
 -- Single leaves: the arrays as they are made, with each leaf's own label and its own number.
 module _ (n : ℕ) (few : n ≤ most-leaves) where
@@ -154,24 +155,21 @@ module _ (n : ℕ) (few : n ≤ most-leaves) where
   }
 
   pub leaves-merged-start :
-      (table : List ℕ) {label m sizes names rows label′ names′ : List ℕ} → Fresh label m sizes names rows
-      → label′ ≡ filled n (λ k. k) label → names′ ≡ filled n (λ k. k) names
-      → LeavesMerged n table label′ m sizes names′ rows 0 n
+      {s : ℕ} (table : List ℕ) {label names : List ℕ} → label ≡ filled n (λ k. k) (replicate most-leaves 0)
+      → names ≡ filled n (λ k. k) (replicate most-leaves 0)
+      → LeavesMerged n s table label (replicate most-leaves 0) (replicate most-leaves 1) names
+      (replicate (2 * most-leaves) 0) 0 n
   unfolding start
-  leaves-merged-start table f e e′ = record {
+  leaves-merged-start table e e′ = record {
     state = start;
-    forest = record {
-      came = halt;
-      holds = rw (f .m-made, f .sizes-made) (holds-start n few (rw (f .label-made) at e));
-      listed = listed-start (rw (f .names-made) at e′) (f .rows-made);
-    };
+    forest = record { came = halt; holds = holds-start n few e; listed = listed-start e′ refl };
     done = record { low = λ k l. refl; spent = λ a b na nb p. absurd (omega (arith, p .left)) };
   }
 
 -- The merges of a leaf begin: it is its own subtree.
 pub begin :
-    {n : ℕ} {table label m sizes names rows : List ℕ} {r t : ℕ}
-    → 0 < t → LeavesMerged n table label m sizes names rows r (t + 1) → MergingLeaf n table label m sizes names rows r t
+    {n s : ℕ} {table label m sizes names rows : List ℕ} {r t : ℕ} → 0 < t
+    → LeavesMerged n s table label m sizes names rows r (t + 1) → MergingLeaf n s table label m sizes names rows r t
 begin {t = t} z b = record {
   state = b .state;
   forest = b .forest;
@@ -183,8 +181,8 @@ begin {t = t} z b = record {
   };
 }
 
-module _ {n : ℕ} {table p label m sizes names rows : List ℕ} {r t : ℕ} (g : Given n table p)
-    (b : MergingLeaf n table label m sizes names rows r t) (lt : t < n) where
+module _ {n s : ℕ} {table p label m sizes names rows : List ℕ} {r t : ℕ} (g : Given n s table p)
+    (b : MergingLeaf n s table label m sizes names rows r t) (lt : t < n) where
   abbrev S : State
   S = b .state
 
@@ -198,15 +196,15 @@ module _ {n : ℕ} {table p label m sizes names rows : List ℕ} {r t : ℕ} (g 
   leaf-merge-sizes-fit = fair w (b .forest .holds) (b .forest .came) g
 
   -- A merge with the partner k.
-  module _ (k : ℕ) (lk : k < n) (f : (t < k) × Joins n table label m sizes t k) where
+  module _ (k : ℕ) (lk : k < n) (f : (t < k) × Joins n table label m sizes p t k) where
     abbrev tk : t < k
     tk = f .0
 
     abbrev ok : getD label k 0 ≡ k
     ok = f .1 .0
 
-    pair : Eligible n 1 (cell n table) (b .state) t k
-    pair = fits-eligible w (b .forest .holds) table t k lt lk own-label ok (omega (arith, tk)) (f .1 .1)
+    pair : Eligible n s (cell n table) (b .state) t k
+    pair = fits-eligible w (b .forest .holds) g t k lt lk own-label ok (omega (arith, tk)) (f .1 .1)
 
     pub merges : MergeReady n label m sizes p t k
     merges = two-merges w (b .forest .holds) (record {
@@ -226,7 +224,7 @@ module _ {n : ℕ} {table p label m sizes names rows : List ℕ} {r t : ℕ} (g 
         out j xj lj oj = is-false (leaves (b .state .tree j) x) (λ in-j.
             omega (arith, least-le (b .state .tree j) x in-j, is-least w (b .forest .holds) j lj oj))
 
-    current-step : Current n table t (step (b .state) t k)
+    current-step : Current n s table t (step (b .state) t k)
     current-step = record {
       positive = b .current .positive;
       low = λ x l. step-out (b .state) t k x (low-out x l) ∙ b .current .low x l;
@@ -246,33 +244,38 @@ module _ {n : ℕ} {table p label m sizes names rows : List ℕ} {r t : ℕ} (g 
         joined = step-in (b .state) t k t (or-left _ _ (w .own t))
 
     pub leaf-merge-room : r + 2 ≤ n
-    leaf-merge-room = row-room w (b .forest .listed) t k pair
+    leaf-merge-room = row-room w (b .forest .holds) (b .forest .listed) t k (b .current .positive) tk own-label ok pair
+
+    pub leaf-merge-names : (getD names t 0 < 2 * most-leaves) × (getD names k 0 < 2 * most-leaves)
+    leaf-merge-names =
+        names-small w (b .forest .holds) (b .forest .listed) t k (b .current .positive) tk own-label ok pair
+        (g .leaf-count .1)
 
     pub leaf-merge-step :
-        {label′ m′ sizes′ names′ rows′ : List ℕ} → Merged n label m sizes label′ m′ sizes′ t k
+        {label′ m′ sizes′ names′ rows′ : List ℕ} → Merged n label m sizes p label′ m′ sizes′ t k
         → names′ ≡ set names t (n + r)
         → rows′ ≡ set (set rows (2 * r) (getD names t 0)) (2 * r + 1) (getD names k 0)
-        → MergingLeaf n table label′ m′ sizes′ names′ rows′ (r + 1) t
+        → MergingLeaf n s table label′ m′ sizes′ names′ rows′ (r + 1) t
     leaf-merge-step d en er =
         let h = b .forest .holds in
         let few = g .leaf-count .1 in
-        let l = listed-step w h (b .forest .listed) t k (b .current .positive) tk own-label ok pair few d in
+        let l = listed-step w h (b .forest .listed) t k (b .current .positive) tk own-label ok pair few g d in
         record {
           state = step (b .state) t k;
           forest = record {
             came = runs-more (b .forest .came) t k pair;
-            holds = holds-step w h t k tk own-label ok pair few d;
+            holds = holds-step w h t k tk own-label ok pair g d;
             listed = rw (en, er) l;
           };
           current = current-step;
         }
 
   -- The merges of a leaf end: no label after t may be merged with t.
-  module _ (miss : (k : ℕ) → t < k → k < n → Joins n table label m sizes t k → ⊥) where
+  module _ (miss : (k : ℕ) → t < k → k < n → Joins n table label m sizes p t k → ⊥) where
     -- a pair with a leaf of t's subtree would have been found, at the least leaf of the other one
     with-t :
-        (x y : ℕ) → t ≤ y → leaves (b .state .tree t) x ≡ true → Eligible n 1 (cell n table) (b .state) x y → ⊥
-    with-t x y ty px e = miss k tk lk (ok, eligible-fits w (b .forest .holds) table t k lt lk own-label ok moved)
+        (x y : ℕ) → t ≤ y → leaves (b .state .tree t) x ≡ true → Eligible n s (cell n table) (b .state) x y → ⊥
+    with-t x y ty px e = miss k tk lk (ok, eligible-fits w (b .forest .holds) g t k lt lk own-label ok moved)
       where
         k : ℕ
         k = least (b .state .tree y)
@@ -289,7 +292,7 @@ module _ {n : ℕ} {table p label m sizes names rows : List ℕ} {r t : ℕ} (g 
         ok : getD label k 0 ≡ k
         ok = b .forest .holds .labels k lk ∙ ap least same
 
-        moved : Eligible n 1 (cell n table) (b .state) t k
+        moved : Eligible n s (cell n table) (b .state) t k
         moved = eligible-move w x y t k lt lk px (rw same (w .own y)) e
 
         tk : t < k
@@ -301,7 +304,7 @@ module _ {n : ℕ} {table p label m sizes names rows : List ℕ} {r t : ℕ} (g 
           ]
         ]
 
-    pub leaf-merge-over : LeavesMerged n table label m sizes names rows r t
+    pub leaf-merge-over : LeavesMerged n s table label m sizes names rows r t
     leaf-merge-over = record {
       state = b .state;
       forest = b .forest;

@@ -1,2 +1,2 @@
 mod AddedRows
-mod LeafMerges
+pub mod LeafMerges

@@ -37,8 +37,8 @@ use Rattle.own_rebuild.specs.inner.OneSubtree.{OneSubtreeFits}
 use Rattle.state_arrays.proofs.StateArrays.{in-label}
 
 -- The subtrees of all leaves but 0 have been merged.
-module _ {n : ℕ} {table label m sizes names rows : List ℕ} {r : ℕ} (count : IsLeafCount n) (is-table : IsTable n table)
-    (b : LeavesMerged n table label m sizes names rows r 1) where
+module _ {n s : ℕ} {table label m sizes names rows : List ℕ} {r : ℕ} (count : IsLeafCount n) (sp : 0 < s)
+    (is-table : IsTable n table) (b : LeavesMerged n s table label m sizes names rows r 1) where
   abbrev big : 3 ≤ n
   big = count .0
 
@@ -81,21 +81,21 @@ module _ {n : ℕ} {table label m sizes names rows : List ℕ} {r : ℕ} (count 
         | no z ↦ or-right (leaves (b .state .tree 0) k) _ (all k (omega arith) l)
       ]
 
-  -- then the value expected of leaf 0 and leaf k is m(k)
+  -- then the value expected of leaf 0 and leaf k is m(k), at the scale
   expected-top :
       All → (k : ℕ)
-      → 1 * (P (n - (size (b .state .tree 0) + size (b .state .tree 1))) + (b .state .m 0 + b .state .m k))
-      ≡ b .state .m k
+      → s * (P (n - (size (b .state .tree 0) + size (b .state .tree 1))) + (b .state .m 0 + b .state .m k))
+      ≡ s * b .state .m k
   expected-top all k =
       let none : n - (size (b .state .tree 0) + size (b .state .tree 1)) ≡ 0 = omega (arith, sum-size all) in
-      rw (none, P-zero, m-zero) (omega arith)
+      rw (none, P-zero, m-zero, zero-add, zero-add)
 
   first-row : (k : ℕ) → cell n table 0 k ≡ getD table k 0
   unfolding cell
   first-row k = rw (zero-mul n, zero-add k)
 
   -- the test of the code says whether leaf 0 and the subtree of leaf 1 are all that is left, and eligible
-  whole-rooted : OneSubtreeFits n table label m → Rooted n 1 table (b .state)
+  whole-rooted : OneSubtreeFits n table label m → Rooted n s table (b .state)
   whole-rooted q = record {
     last = record {
       left = omega (arith, big);
@@ -114,7 +114,7 @@ module _ {n : ℕ} {table label m sizes names rows : List ℕ} {r : ℕ} (count 
           let own = (q 1 (omega (arith, big)) (omega arith)) .0 in
           in-label w (b .forest .holds) 1 (omega (arith, big)) own k l ((q k l z) .0)
 
-  rooted-whole : Rooted n 1 table (b .state) → OneSubtreeFits n table label m
+  rooted-whole : Rooted n s table (b .state) → OneSubtreeFits n table label m
   rooted-whole o k l z = (
     b .forest .holds .labels k l ∙ ap least (w .closed 1 k (o .all k z l)) ∙ one-least,
     sym (first-row k)
@@ -123,9 +123,9 @@ module _ {n : ℕ} {table label m sizes names rows : List ℕ} {r : ℕ} (count 
         ∙ sym (b .forest .holds .sums k l),
   )
 
-  pub no-tree : (OneSubtreeFits n table label m → ⊥) → rebuilt n 1 table ≡ refused NoTree
+  pub no-tree : (OneSubtreeFits n table label m → ⊥) → rebuilt n s table ≡ refused NoTree
   no-tree deny =
-      rooted-refused n 1 big (omega arith) table is-table (b .forest .came) zero (λ i j. b .done .spent i j)
+      rooted-refused n s big sp table is-table (b .forest .came) zero (λ i j. b .done .spent i j)
       (λ o. deny (rooted-whole o))
 
   -- The listing: the rows keep the rules, and the subtree of leaf 1 stands under their last node.
@@ -135,7 +135,7 @@ module _ {n : ℕ} {table label m sizes names rows : List ℕ} {r : ℕ} (count 
 
     made : r ≡ n - 2
     made =
-        let two = rooted-two n 1 big (omega arith) table is-table (b .forest .came) zero (whole-rooted q) in
+        let two = rooted-two n s big sp table is-table (b .forest .came) zero (whole-rooted q) in
         omega (arith, two, b .forest .listed .counted)
 
     rows-long : length rows-made ≡ 2 * (n - 2)
@@ -152,22 +152,22 @@ module _ {n : ℕ} {table label m sizes names rows : List ℕ} {r : ℕ} (count 
         rw (← last-alone n rows-made big rows-long lawful-rows (getD names 1 0) (name .0)) (name .1)
 
     -- so our own rebuild answers with its standard listing
-    is-rebuilt : rebuilt n 1 table ≡ accepted (standard n (b .state .tree 1))
-    is-rebuilt = rooted-result n 1 big (omega arith) table is-table (b .forest .came) zero (whole-rooted q)
+    is-rebuilt : rebuilt n s table ≡ accepted (standard n (b .state .tree 1))
+    is-rebuilt = rooted-result n s big sp table is-table (b .forest .came) zero (whole-rooted q)
 
-    pub standard-rebuilt : (room : ℕ) → 2 * (n - 2) ≤ room → standardise-answer n rows-made room ≡ rebuilt n 1 table
+    pub standard-rebuilt : (room : ℕ) → 2 * (n - 2) ≤ room → standardise-answer n rows-made room ≡ rebuilt n s table
     unfolding standardise-answer answered listing-refusal
     standard-rebuilt room enough =
         let sizes = sizes-pass Counts n _ _ _ room (record { count = count; long = rows-long; enough = enough }) in
         let keeps = of-lawful n (omega (arith, big)) rows-made lawful-rows in
         rw (judged-passes _ sizes ∙ judged-alone _ ∙ keeps, top-tree) (sym is-rebuilt)
 
-    pub rebuilt-done : Done ≡ outcome (rebuilt n 1 table)
+    pub rebuilt-done : Done ≡ outcome (rebuilt n s table)
     unfolding outcome
     rebuilt-done = rw is-rebuilt
 
   pub answered-none :
       (OneSubtreeFits n table label m → ⊥) → (out : List ℕ)
-      → (Refused NoTree ≡ outcome (rebuilt n 1 table)) × (out ≡ written (rebuilt n 1 table) out)
+      → (Refused NoTree ≡ outcome (rebuilt n s table)) × (out ≡ written (rebuilt n s table) out)
   unfolding outcome written
   answered-none deny out = (rw (no-tree deny), rw (no-tree deny))

@@ -2,10 +2,13 @@
 // `packed`.
 use eligible_pairs::as_expected;
 use eligible_pairs::cell_at;
+use leaf_merges::merge_leaves;
 use limits::Kind;
 use limits::MOST_LEAVES;
+use numbers::own_numbers;
 use refusals::Outcome;
 use refusals::Refusal;
+use state_arrays::scaled_counts;
 ghost use mathlib.Core.Path.{_≡_};
 ghost use mathlib.Core.Logic.{_↔_};
 ghost use mathlib.Core.Bool.{true};
@@ -18,6 +21,7 @@ ghost use Rattle.trees.specs.Tables.{IsTable};
 ghost use Rattle.merging.specs.Rebuilds.{rebuilt};
 ghost use Rattle.rebuild_answers.specs.Operations.{rebuild-answer, packed-answer};
 ghost use Rattle.rebuild_answers.specs.Meanings.{RebuildMeans};
+ghost use Rattle.state_arrays.specs.inner.Fits.{IsScale};
 ghost use Rattle.eligible_pairs.specs.inner.Lent.{lent-table};
 ghost use Rattle.own_rebuild.specs.inner.OneSubtree.{OneSubtreeFits};
 
@@ -49,20 +53,30 @@ fn one_subtree_fits(
 }
 
 // Our own rebuild of a table that has passed the checks placed before 6: the standard listing of the tree that has the
-// table, at the front of `out`; or 6, with `out` as it was. For the crates of the rebuilds.
-pub fn rebuild_checked(n: usize, table: &[u32], packed: &[u8], out: &mut [u16]) -> Outcome
-    requires { ⌜ IsLeafCount n × IsTable n (lent-table n (now table) (now packed))
+// table at this scale, at the front of `out`; or 6, with `out` as it was. For the crates of the rebuilds.
+pub fn rebuild_checked(
+    n: usize,
+    scale: u32,
+    table: &[u32],
+    packed: &[u8],
+    out: &mut [u16],
+) -> Outcome
+    requires { ⌜ IsLeafCount n × IsScale scale × IsTable n (lent-table n (now table) (now packed))
         × (2 * (n - 2) ≤ length (now out)) ⌝ }
-    ensures answer { λ r. ⌜ r ≡ outcome (rebuilt n 1 (lent-table n (now (table .entry)) (now (packed .entry)))) ⌝ }
+    ensures answer { λ r. ⌜ r
+        ≡ outcome (rebuilt n scale (lent-table n (now (table .entry)) (now (packed .entry)))) ⌝ }
     ensures buffer { λ _. ⌜ now (out .exit)
-        ≡ written (rebuilt n 1 (lent-table n (now (table .entry)) (now (packed .entry)))) (now (out .entry)) ⌝ }
+        ≡ written (rebuilt n scale (lent-table n (now (table .entry)) (now (packed .entry)))) (now (out .entry)) ⌝ }
 {
+    let p = scaled_counts(n, scale);
     let mut label: [u32; MOST_LEAVES] = [0; MOST_LEAVES];
     let mut m: [u32; MOST_LEAVES] = [0; MOST_LEAVES];
     let mut sizes: [usize; MOST_LEAVES] = [1; MOST_LEAVES];
-    let mut names: [u16; MOST_LEAVES] = [0; MOST_LEAVES];
+    let mut names: [u32; MOST_LEAVES] = [0; MOST_LEAVES];
     let mut rows: [u16; 2 * MOST_LEAVES] = [0; 2 * MOST_LEAVES];
-    leaf_merges::build(
+    own_numbers(n, &mut label);
+    own_numbers(n, &mut names);
+    merge_leaves(
         n,
         table,
         packed,
@@ -71,6 +85,7 @@ pub fn rebuild_checked(n: usize, table: &[u32], packed: &[u8], out: &mut [u16]) 
         &mut sizes,
         &mut names,
         &mut rows,
+        &p,
     );
     if !one_subtree_fits(n, table, packed, &label, &m) {
         return Outcome::Refused(Refusal::NoTree);
@@ -92,7 +107,7 @@ pub fn rebuild(n: usize, table: &[u32], out: &mut [u16]) -> Outcome
     let Outcome::Done = judged else {
         return judged;
     };
-    rebuild_checked(n, table, b"", out)
+    rebuild_checked(n, 1, table, b"", out)
 }
 
 // How many bytes a packed table of n leaves has; 0 where no tree has n leaves.
@@ -123,5 +138,5 @@ pub fn rebuild_packed(n: usize, packed: &[u8], out: &mut [u16]) -> Outcome
         return judged;
     };
     let cells: [u32; 0] = [];
-    rebuild_checked(n, &cells, packed, out)
+    rebuild_checked(n, 1, &cells, packed, out)
 }

@@ -15,7 +15,8 @@ use Rattle.trees.proofs.Tables.{passes-exactly, own-is-table, scale-one}
 use Rattle.table_checks.proofs.TableRefusal.{table-passes}
 use Rattle.merging.proofs.OneTable.{one-table}
 use Rattle.rebuild_answers.specs.Operations.{rebuild-answer}
-use Rattle.rebuild_answers.proofs.Promises.{accepted-exactly-when, rebuilt-is-the-only-one, rebuilt-has-the-table}
+use Rattle.rebuild_answers.proofs.Promises.{accepted-exactly-when, rebuilt-is-the-only-one}
+use Rattle.rebuild_answers.proofs.Promises.{rebuilt-has-the-table}
 
 -- the table of a tree has a zero diagonal and equal halves, and passes 4 and 5
 pub own-table-passes : (n : ℕ) (T : Tree) → IsTable n (table-of n T) × (cells-refusal n (table-of n T) ≡ none)

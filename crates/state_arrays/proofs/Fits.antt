@@ -6,14 +6,10 @@ use mathlib.Core.List.{List}
 use Prim.Native.Nat.{ℕ, _+_, _-_, _*_, _≤_}
 use native.Mathlib.Omega.{arith}
 use lib.ListN.{getD}
-use Rattle.limits.specs.Limits.{most-leaves}
-use Rattle.pair_counts.specs.Pairs.{P}
-use Rattle.pair_counts.proofs.Pairs.{P-mono}
 use Rattle.trees.specs.Tables.{cell}
 use Rattle.trees.proofs.Tables.{halves-equal}
 use Rattle.merging.proofs.Runs.{EqualHalves}
-use Rattle.state_arrays.specs.inner.Fits.{BlockFits, SubtreesFit, TwoLabels}
-use Rattle.state_arrays.proofs.Merged.{pair-count}
+use Rattle.state_arrays.specs.inner.Fits.{largest-sum, BlockFits, SubtreesFit, TwoLabels}
 
 -- the cells of two subtrees, read by the rows of the other one
 fits-turn :
@@ -27,32 +23,23 @@ module _ {n : ℕ} {t label m sizes p : List ℕ} {a b : ℕ} (w : TwoLabels n t
   abbrev e : ℕ
   e = getD p (n - (getD sizes a 0 + getD sizes b 0)) 0
 
-  pub few : n ≤ most-leaves
-  few = w .fair .given .leaf-count .1
-
   pub both-fit : getD sizes a 0 + getD sizes b 0 ≤ n
   both-fit = w .fair .room a b (w .first) (w .second) (w .differ) (w .own-first) (w .own-second)
 
-  rest-pairs : e ≡ P (n - (getD sizes a 0 + getD sizes b 0))
-  rest-pairs = pair-count (w .fair .given .pair-counts) (n - (getD sizes a 0 + getD sizes b 0)) (omega (arith, few))
-
-  pub expected-small : (e ≤ P most-leaves) × ((e + getD m a 0) + getD m b 0 ≤ 3 * P most-leaves)
+  pub expected-small : (e ≤ largest-sum) × ((e + getD m a 0) + getD m b 0 ≤ 3 * largest-sum)
   expected-small =
-      let most = P-mono (n - (getD sizes a 0 + getD sizes b 0)) most-leaves (omega (arith, few)) in
+      let pairs = w .fair .small-counts (n - (getD sizes a 0 + getD sizes b 0)) (omega arith) in
       let small = w .fair .small in
-      (omega (arith, rest-pairs, most), omega (arith, rest-pairs, most, small a (w .first), small b (w .second)))
+      (pairs, omega (arith, pairs, small a (w .first), small b (w .second)))
 
-  pub first-off : (cell n t a b ≡ (e + getD m a 0) + getD m b 0 → ⊥) → SubtreesFit n t label m sizes a b → ⊥
-  first-off h meets = h (rw rest-pairs (meets a b (w .first) (w .second) (w .own-first) (w .own-second)))
+  pub first-off : (cell n t a b ≡ (e + getD m a 0) + getD m b 0 → ⊥) → SubtreesFit n t label m sizes p a b → ⊥
+  first-off h meets = h (meets a b (w .first) (w .second) (w .own-first) (w .own-second))
 
-  pub along : {r : Bool} → (r ≡ true) ↔ BlockFits n t label m a b e → (r ≡ true) ↔ SubtreesFit n t label m sizes a b
-  along h = rw rest-pairs at h
-
-  pub across : {r : Bool} → (r ≡ true) ↔ BlockFits n t label m b a e → (r ≡ true) ↔ SubtreesFit n t label m sizes a b
-  across h = along (λ r. fits-turn n t label m b a halves e (h .0 r), λ f. h .1 (fits-turn n t label m a b halves e f))
+  pub across : {r : Bool} → (r ≡ true) ↔ BlockFits n t label m b a e → (r ≡ true) ↔ SubtreesFit n t label m sizes p a b
+  across h = (λ r. fits-turn n t label m b a halves e (h .0 r), λ f. h .1 (fits-turn n t label m a b halves e f))
     where
       halves : EqualHalves n (cell n t)
-      halves = halves-equal (w .fair .given .is-table)
+      halves = halves-equal (w .fair .is-table)
 
 -- in the other order
 pub two-turned :

@@ -7,12 +7,8 @@ use native.Mathlib.Omega.{arith}
 use lib.Dec.{eqb}
 use lib.ListN.{length, getD, set}
 use Rattle.base.proofs.Bools.{bool?}
-use Rattle.base.specs.Lists.{tab}
-use Rattle.base.proofs.Lists.{getD-tab}
 use Rattle.base.proofs.Filling.{filled-none, filled-more, getD-next}
-use Rattle.limits.specs.Limits.{most-leaves}
-use Rattle.pair_counts.specs.Pairs.{P}
-use Rattle.pair_counts.proofs.Pairs.{P-mono}
+use Rattle.state_arrays.specs.inner.Fits.{largest-sum}
 use Rattle.state_arrays.specs.inner.Merged.{relabelled, growth, label-at, m-at, Gathered, MergeReady}
 
 pub growth-le : (l a b pa pb : ℕ) (z : ℕ) → pa ≤ z → pb ≤ z → growth l a b pa pb ≤ z
@@ -51,23 +47,8 @@ module _ (label m : List ℕ) (a b pa pb : ℕ) where
     pub gather-end : (n : ℕ) → x ≡ n → Gathered n label m label′ m′ a b pa pb
     gather-end n e = rw e at g
 
--- the table of pair counts
-pub pair-count : {p : List ℕ} → p ≡ tab (most-leaves + 1) P → (k : ℕ) → k ≤ most-leaves → getD p k 0 ≡ P k
-pair-count e k l = rw e (getD-tab (most-leaves + 1) P k 0 (omega arith))
-
 -- The pair counts of the two sizes.
-module _ {n : ℕ} {label m sizes p : List ℕ} {a b : ℕ} (w : MergeReady n label m sizes p a b) where
-  first-few : getD sizes a 0 ≤ most-leaves
-  first-few = omega (arith, w .room, w .few)
-
-  second-few : getD sizes b 0 ≤ most-leaves
-  second-few = omega (arith, w .room, w .few)
-
-  pub first-pairs : getD p (getD sizes a 0) 0 ≡ P (getD sizes a 0)
-  first-pairs = pair-count (w .pair-counts) _ first-few
-
-  pub second-pairs : getD p (getD sizes b 0) 0 ≡ P (getD sizes b 0)
-  second-pairs = pair-count (w .pair-counts) _ second-few
-
-  pub pairs-small : (getD p (getD sizes a 0) 0 ≤ P most-leaves) × (getD p (getD sizes b 0) 0 ≤ P most-leaves)
-  pairs-small = (rw first-pairs (P-mono _ most-leaves first-few), rw second-pairs (P-mono _ most-leaves second-few))
+pub pairs-small :
+    {n : ℕ} {label m sizes p : List ℕ} {a b : ℕ} → MergeReady n label m sizes p a b
+    → (getD p (getD sizes a 0) 0 ≤ largest-sum) × (getD p (getD sizes b 0) 0 ≤ largest-sum)
+pairs-small w = (w .small-counts _ (omega (arith, w .room)), w .small-counts _ (omega (arith, w .room)))

@@ -5,6 +5,7 @@ use mathlib.Core.Logic.{_≢_, inl, inr}
 use mathlib.Core.Bool.{true, false, _||_}
 use mathlib.Core.List.{List}
 use Prim.Native.Nat.{ℕ, _+_, _-_, _*_, _≤_, _<_}
+use native.Mathlib.Nat.{mul-add, mul-zero, mul-one, mul-le-mul}
 use native.Mathlib.Omega.{arith}
 use native.Mathlib.Decide.{ℕ-discrete}
 use borrow.Author.Tests.{ne-eqb}
@@ -14,22 +15,32 @@ use Rattle.base.specs.Lists.{filled}
 use Rattle.base.proofs.Bools.{bool?, never, is-false, or-left, or-right, or-none, or-neither, eqb-same}
 use Rattle.base.proofs.Counts.{count-le}
 use Rattle.base.proofs.Filling.{length-filled, getD-filled}
-use Rattle.limits.specs.Limits.{most-leaves}
+use Rattle.limits.specs.Limits.{most-leaves, IsLeafCount}
 use Rattle.pair_counts.specs.Pairs.{P}
 use Rattle.pair_counts.proofs.Pairs.{P-mono}
 use Rattle.trees.specs.Trees.{Tree, leaves, size, least, join}
-use Rattle.trees.specs.Tables.{cell}
+use Rattle.trees.specs.Tables.{cell, IsTable}
 use Rattle.trees.proofs.Trees.{least-in, least-join, size-join}
 use Rattle.merging.specs.Merging.{State, start, step}
 use Rattle.merging.proofs.States.{WellFormed, step-in, step-out, step-m-left, step-m-right, step-m-out, apart}
 use Rattle.merging.proofs.States.{two-fit}
 use Rattle.merging.specs.inner.Runs.{Eligible, Runs}
 use Rattle.merging.proofs.Values.{m-pairs}
-use Rattle.state_arrays.specs.inner.Fits.{SubtreesFit, SmallSums, Given, SizesFit, TwoLabels}
+use Rattle.state_arrays.specs.inner.Fits.{IsScale, ScaledCounts, scale-of, Given, SmallSums, SubtreesFit}
+use Rattle.state_arrays.specs.inner.Fits.{SizesFit, TwoLabels}
 use Rattle.state_arrays.specs.inner.Merged.{relabelled, label-at, m-at, MergeReady}
 use Rattle.state_arrays.specs.inner.Merged as Merged
 use Rattle.state_arrays.specs.inner.StateArrays.{HoldsState}
 use Rattle.state_arrays.proofs.Fits.{both-fit}
+
+-- what a rebuild is given, as it is made: pair counts have their scale at two leaves
+pub counts-given :
+    (n s : ℕ) (t p : List ℕ) → IsLeafCount n → IsScale s → IsTable n t → ScaledCounts n s p
+    → (scale-of p ≡ s) × Given n (scale-of p) t p
+unfolding P
+counts-given n s t p count scale is-table counts =
+    let e : getD p 2 0 ≡ s = counts 2 (omega (arith, count)) ∙ mul-one s in
+    (e, rw e (record { leaf-count = count; is-table = is-table; scaled = scale; pair-counts = counts }))
 
 -- The labels after a merge, and what m grows by.
 relabel-other : (l a b : ℕ) → l ≢ b → relabelled l a b ≡ l
@@ -52,7 +63,7 @@ grow-none : (l a b pa pb : ℕ) → l ≢ a → l ≢ b → Merged.growth l a b 
 unfolding Merged.growth
 grow-none l a b pa pb d e = rw (ne-eqb l a d, ne-eqb l b e)
 
-module _ {n : ℕ} {S : State} (w : WellFormed n S) {label m sizes : List ℕ} (h : HoldsState n label m sizes S) where
+module _ {n s : ℕ} {S : State} (w : WellFormed n S) {label m sizes : List ℕ} (h : HoldsState n s label m sizes S) where
   -- a label i: the leaves labelled i are those of its subtree
   module _ (i : ℕ) (li : i < n) (own : getD label i 0 ≡ i) where
     pub is-least : least (S .tree i) ≡ i
@@ -73,11 +84,24 @@ module _ {n : ℕ} {S : State} (w : WellFormed n S) {label m sizes : List ℕ} (
     two-apart k lk ok d = is-false (leaves (S .tree i) k) (λ p. d (sym (label-in k lk p) ∙ ok))
 
   -- the test of two labels says whether their subtrees are eligible
-  module _ (t : List ℕ) (i k : ℕ) (li : i < n) (lk : k < n) (oi : getD label i 0 ≡ i) (ok : getD label k 0 ≡ k) where
-    regroup : (e u v : ℕ) → (e + u) + v ≡ 1 * (e + (u + v))
-    regroup e u v = omega arith
+  module _ {t p : List ℕ} (g : Given n s t p) (i k : ℕ) (li : i < n) (lk : k < n) (oi : getD label i 0 ≡ i)
+      (ok : getD label k 0 ≡ k) where
+    expected-is :
+        (x y : ℕ) → x < n → y < n
+        → (getD p (n - (getD sizes i 0 + getD sizes k 0)) 0 + getD m x 0) + getD m y 0
+        ≡ s * (P (n - (size (S .tree i) + size (S .tree k))) + (S .m x + S .m y))
+    expected-is x y lx ly =
+        rw (
+          h .sized i li oi,
+          h .sized k lk ok,
+          g .pair-counts (n - (size (S .tree i) + size (S .tree k))) (omega arith),
+          h .sums x lx,
+          h .sums y ly,
+          mul-add,
+        )
+        (rw mul-add (omega arith))
 
-    pub fits-eligible : i ≢ k → SubtreesFit n t label m sizes i k → Eligible n 1 (cell n t) S i k
+    pub fits-eligible : i ≢ k → SubtreesFit n t label m sizes p i k → Eligible n s (cell n t) S i k
     fits-eligible d q = record {
       left = li;
       right = lk;
@@ -85,26 +109,32 @@ module _ {n : ℕ} {S : State} (w : WellFormed n S) {label m sizes : List ℕ} (
       cells = λ x y px py.
           let lx = w .below i x li px in
           let ly = w .below k y lk py in
-          let cell-is = q x y lx ly (label-in i li oi x lx px) (label-in k lk ok y ly py) in
-          rw (h .sized i li oi, h .sized k lk ok, h .sums x lx, h .sums y ly, regroup) at cell-is;
+          q x y lx ly (label-in i li oi x lx px) (label-in k lk ok y ly py) ∙ expected-is x y lx ly;
     }
 
-    pub eligible-fits : Eligible n 1 (cell n t) S i k → SubtreesFit n t label m sizes i k
+    pub eligible-fits : Eligible n s (cell n t) S i k → SubtreesFit n t label m sizes p i k
     eligible-fits e x y lx ly px py =
-        rw (h .sized i li oi, h .sized k lk ok, h .sums x lx, h .sums y ly, regroup)
-        (e .cells x y (in-label i li oi x lx px) (in-label k lk ok y ly py))
+        e .cells x y (in-label i li oi x lx px) (in-label k lk ok y ly py) ∙ sym (expected-is x y lx ly)
 
   -- what a test has to know
-  module _ {c : ℕ → ℕ → ℕ} (r : Runs n 1 c start S) where
-    small : n ≤ most-leaves → SmallSums n m
-    small few k l =
+  module _ {c : ℕ → ℕ → ℕ} (r : Runs n s c start S) {t p : List ℕ} (g : Given n s t p) where
+    small : SmallSums n m
+    small k l =
         let size-le : size (S .tree k) ≤ n = rw (w .sized k l) (count-le n (leaves (S .tree k))) in
-        omega (arith, h .sums k l, m-pairs r k, P-mono (size (S .tree k) - 1) most-leaves (omega arith))
+        let most = P-mono (size (S .tree k) - 1) most-leaves (omega (arith, g .leaf-count)) in
+        rw (h .sums k l) (mul-le-mul (g .scaled .1) (omega (arith, m-pairs r k, most)))
 
-    pub fair : {t p : List ℕ} → Given n t p → SizesFit n t label m sizes p
-    fair g = record {
-      given = g;
-      small = small (g .leaf-count .1);
+    small-counts : SmallSums (n + 1) p
+    small-counts k l =
+        rw (g .pair-counts k (omega arith))
+        (mul-le-mul (g .scaled .1) (P-mono k most-leaves (omega (arith, g .leaf-count))))
+
+    pub fair : SizesFit n t label m sizes p
+    fair = record {
+      few = g .leaf-count .1;
+      is-table = g .is-table;
+      small-counts = small-counts;
+      small = small;
       room = λ a b la lb d oa ob.
           rw (h .sized a la oa, h .sized b lb ob) (two-fit w a b la lb (two-apart a la oa b lb ob d));
     }
@@ -112,11 +142,11 @@ module _ {n : ℕ} {S : State} (w : WellFormed n S) {label m sizes : List ℕ} (
   -- what a merge has to know
   pub two-merges : {t p : List ℕ} {a b : ℕ} → TwoLabels n t label m sizes p a b → MergeReady n label m sizes p a b
   two-merges q = record {
-    few = q .fair .given .leaf-count .1;
+    few = q .fair .few;
     label-long = h .label-long;
     m-long = h .m-long;
     small = q .fair .small;
-    pair-counts = q .fair .given .pair-counts;
+    small-counts = q .fair .small-counts;
     first = q .first;
     second = q .second;
     room = both-fit q;
@@ -124,8 +154,11 @@ module _ {n : ℕ} {S : State} (w : WellFormed n S) {label m sizes : List ℕ} (
 
   -- A merge of the subtrees labelled i and k, i < k.
   module _ {c : ℕ → ℕ → ℕ} (i k : ℕ) (ik : i < k) (oi : getD label i 0 ≡ i) (ok : getD label k 0 ≡ k)
-      (e : Eligible n 1 c S i k) (few : n ≤ most-leaves) {label′ m′ sizes′ : List ℕ}
-      (d : Merged.Merged n label m sizes label′ m′ sizes′ i k) where
+      (e : Eligible n s c S i k) {t p : List ℕ} (g : Given n s t p) {label′ m′ sizes′ : List ℕ}
+      (d : Merged.Merged n label m sizes p label′ m′ sizes′ i k) where
+    few : n ≤ most-leaves
+    few = g .leaf-count .1
+
     abbrev A : Tree
     A = S .tree i
 
@@ -156,25 +189,38 @@ module _ {n : ℕ} {S : State} (w : WellFormed n S) {label m sizes : List ℕ} (
     ]
 
     abbrev pa : ℕ
-    pa = P (getD sizes i 0)
+    pa = getD p (getD sizes i 0) 0
 
     abbrev pb : ℕ
-    pb = P (getD sizes k 0)
+    pb = getD p (getD sizes k 0) 0
+
+    joined-fit : size A + size B ≤ n
+    joined-fit = two-fit w i k (e .left) (e .right) (e .apart)
+
+    pa-is : pa ≡ s * P (size A)
+    pa-is = rw (h .sized i (e .left) oi) (g .pair-counts (size A) (omega (arith, joined-fit)))
+
+    pb-is : pb ≡ s * P (size B)
+    pb-is = rw (h .sized k (e .right) ok) (g .pair-counts (size B) (omega (arith, joined-fit)))
 
     sum-is : (x : ℕ) → x < n → getD m′ x 0 ≡ getD m x 0 + Merged.growth (getD label x 0) i k pa pb
     sum-is x lx = rw (d .gathered .sums, getD-filled (m-at label m i k pa pb) m n x 0 lx) (unfold m-at in refl)
 
-    sums′ : (x : ℕ) → x < n → getD m′ x 0 ≡ (step S i k) .m x
+    sums′ : (x : ℕ) → x < n → getD m′ x 0 ≡ s * (step S i k) .m x
     sums′ x lx = sum-is x lx ∙ rw (h .sums x lx) (elim (bool? (leaves A x)) [
       | inl p ↦
-          rw (grow-first (getD label x 0) i k pa pb (label-in i (e .left) oi x lx p), h .sized k (e .right) ok)
-          (sym (step-m-left S i k x p (apart w i k (e .apart) x p)))
+          rw (
+            grow-first (getD label x 0) i k pa pb (label-in i (e .left) oi x lx p),
+            pb-is,
+            step-m-left S i k x p (apart w i k (e .apart) x p),
+          )
+          (sym (mul-add s _ _))
       | inr p ↦ elim (bool? (leaves B x)) [
         | inl q ↦
             let not-i = label-out i (e .left) oi x lx p in
             let is-k = label-in k (e .right) ok x lx q in
-            rw (grow-second (getD label x 0) i k pa pb not-i is-k, h .sized i (e .left) oi)
-            (sym (step-m-right S i k x p q))
+            rw (grow-second (getD label x 0) i k pa pb not-i is-k, pa-is, step-m-right S i k x p q)
+            (sym (mul-add s _ _))
         | inr q ↦
             let not-i = label-out i (e .left) oi x lx p in
             let not-k = label-out k (e .right) ok x lx q in
@@ -194,12 +240,15 @@ module _ {n : ℕ} {S : State} (w : WellFormed n S) {label m sizes : List ℕ} (
           (h .labels x lx ∙ rw (← kept) (sym (labels′ x lx) ∙ o), not-k, kept)
     ]
 
+    inside : i < length sizes
+    inside = rw (h .sizes-long) (omega (arith, few, e .left))
+
     sized′ : (x : ℕ) → x < n → getD label′ x 0 ≡ x → getD sizes′ x 0 ≡ size ((step S i k) .tree x)
     sized′ x lx o = rw (d .summed) (elim (ℕ-discrete x i) [
       | yes z ↦
           rw (
             z,
-            getD-set-same sizes i (getD sizes i 0 + getD sizes k 0) 0 (omega (arith, h .sizes-long, e .left)),
+            getD-set-same sizes i (getD sizes i 0 + getD sizes k 0) 0 inside,
             step-in S i k i (or-left _ _ (w .own i)),
             size-join,
             h .sized i (e .left) oi,
@@ -210,10 +259,10 @@ module _ {n : ℕ} {S : State} (w : WellFormed n S) {label m sizes : List ℕ} (
           rw (getD-set-other sizes i x (getD sizes i 0 + getD sizes k 0) 0 z, u .2) (h .sized x lx (u .0))
     ])
 
-    pub holds-step : HoldsState n label′ m′ sizes′ (step S i k)
+    pub holds-step : HoldsState n s label′ m′ sizes′ (step S i k)
     holds-step = record {
-      label-long = rw (d .gathered .labels) (length-filled _ label n (omega (arith, h .label-long)) ∙ h .label-long);
-      m-long = rw (d .gathered .sums) (length-filled _ m n (omega (arith, h .m-long)) ∙ h .m-long);
+      label-long = rw (d .gathered .labels) (length-filled _ label n (rw (h .label-long) few) ∙ h .label-long);
+      m-long = rw (d .gathered .sums) (length-filled _ m n (rw (h .m-long) few) ∙ h .m-long);
       sizes-long = rw (d .summed) (length-set sizes i (getD sizes i 0 + getD sizes k 0) ∙ h .sizes-long);
       labels = labels′;
       sums = sums′;
@@ -229,14 +278,14 @@ module _ (n : ℕ) (few : n ≤ most-leaves) where
   filled-long e = rw e (length-filled (λ k. k) (replicate most-leaves 0) n few)
 
   pub holds-start :
-      {label : List ℕ} → label ≡ filled n (λ k. k) (replicate most-leaves 0)
-      → HoldsState n label (replicate most-leaves 0) (replicate most-leaves 1) start
+      {s : ℕ} {label : List ℕ} → label ≡ filled n (λ k. k) (replicate most-leaves 0)
+      → HoldsState n s label (replicate most-leaves 0) (replicate most-leaves 1) start
   unfolding start least size
-  holds-start e = record {
+  holds-start {s} e = record {
     label-long = filled-long e;
     m-long = refl;
     sizes-long = refl;
     labels = filled-own e;
-    sums = λ k l. getD-replicate most-leaves k 0 0 (omega arith);
+    sums = λ k l. getD-replicate most-leaves k 0 0 (omega arith) ∙ sym (mul-zero s);
     sized = λ k l o. getD-replicate most-leaves k 1 0 (omega arith);
   }

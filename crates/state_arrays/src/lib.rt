@@ -1,32 +1,26 @@
 // The arrays of a rebuild: each leaf has a label, the least leaf of its subtree, and its number m; a label has the
 // number of leaves of its subtree. How they start, and what a merge makes of them. For the crates of the rebuilds.
+use limits::LEAF_COUNTS;
 use limits::MOST_LEAVES;
 ghost use mathlib.Core.Path.{_≡_};
 ghost use Prim.Native.Nat.{_≤_};
 ghost use lib.ListN.{length};
-ghost use Rattle.base.specs.Lists.{filled};
 ghost use Rattle.limits.specs.Limits.{most-leaves};
-ghost use Rattle.pair_counts.specs.Pairs.{P};
-ghost use Rattle.state_arrays.specs.inner.Fits.{SmallSums};
+ghost use Rattle.state_arrays.specs.inner.Fits.{most-scale, ScaledCounts, largest-sum, SmallSums};
 ghost use Rattle.state_arrays.specs.inner.Merged.{relabelled, growth, Gathered, MergeReady, Merged};
 
-// A label as an index of the arrays.
-pub fn index_of_u32(x: u32) -> usize
-    ensures { λ r. ⌜ r ≡ x ⌝ }
+// The pair counts of up to n leaves at this scale: entry k is scale * P(k).
+pub fn scaled_counts(n: usize, scale: u32) -> [u32; LEAF_COUNTS]
+    requires { ⌜ (n ≤ most-leaves) × (scale ≤ most-scale) ⌝ }
+    ensures { λ r. ⌜ ScaledCounts n scale r ⌝ }
 {
-    x as usize
-}
-
-// Each leaf by itself: its own label.
-pub fn label_leaves(n: usize, label: &mut [u32; MOST_LEAVES])
-    requires { ⌜ (n ≤ most-leaves) × (length (now label) ≡ most-leaves) ⌝ }
-    ensures { λ _. ⌜ now (label .exit) ≡ filled n (λ k. k) (now (label .entry)) ⌝ }
-{
-    let mut i: usize = 0;
-    while i < n {
-        label[i] = i as u32;
-        i += 1;
+    let mut p = pair_counts::pair_counts();
+    let mut k: usize = 0;
+    while k <= n {
+        p[k] = scale * p[k];
+        k += 1;
     }
+    p
 }
 
 // What m of a leaf with this label grows by, where the subtrees `a` and `b` merge; they have `pa` and `pb` pairs.
@@ -63,7 +57,7 @@ fn gather(
     pb: u32,
 )
     requires { ⌜ (n ≤ most-leaves) × (length (now label) ≡ most-leaves) × (length (now m) ≡ most-leaves)
-        × SmallSums n (now m) × (pa ≤ P most-leaves) × (pb ≤ P most-leaves) ⌝ }
+        × SmallSums n (now m) × (pa ≤ largest-sum) × (pb ≤ largest-sum) ⌝ }
     ensures { λ _. ⌜ Gathered n (now (label .entry)) (now (m .entry)) (now (label .exit)) (now (m .exit)) a b pa pb ⌝ }
 {
     let mut x: usize = 0;
@@ -81,12 +75,12 @@ pub fn merge(
     label: &mut [u32; MOST_LEAVES],
     m: &mut [u32; MOST_LEAVES],
     sizes: &mut [usize; MOST_LEAVES],
-    p: &[u32; MOST_LEAVES + 1],
+    p: &[u32; LEAF_COUNTS],
     a: usize,
     b: usize,
 )
     requires { ⌜ MergeReady n (now label) (now m) (now sizes) (now p) a b ⌝ }
-    ensures { λ _. ⌜ Merged n (now (label .entry)) (now (m .entry)) (now (sizes .entry))
+    ensures { λ _. ⌜ Merged n (now (label .entry)) (now (m .entry)) (now (sizes .entry)) (now (p .entry))
         (now (label .exit)) (now (m .exit)) (now (sizes .exit)) a b ⌝ }
 {
     let first = sizes[a];

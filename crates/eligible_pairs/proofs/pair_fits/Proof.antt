@@ -6,8 +6,7 @@ use borrow.Author.Needs.{needs}
 use Rattle.pair_counts.proofs.Pairs.{P-most}
 use Rattle.trees.specs.Tables.{cell}
 use Rattle.eligible_pairs.proofs.Mismatches.{says-no, unexpected}
-use Rattle.state_arrays.proofs.Fits.{few, both-fit, expected-small, first-off}
-use Rattle.state_arrays.proofs.Fits.{along, across}
+use Rattle.state_arrays.proofs.Fits.{both-fit, expected-small, first-off, across}
 use Rattle.eligible_pairs.proofs.pair_fits.Statement.{statement}
 use Rattle.eligible_pairs.proofs.pair_fits.Tie as tie
 
@@ -24,7 +23,9 @@ element-copy-out-second : tie.Need-element-copy-out-second
 element-copy-out-second c = search needs
 
 add-e : tie.Need-add-e
-add-e c = omega (arith, both-fit (c .before .before .before .before .pre), few (c .before .before .before .before .pre))
+add-e c =
+    let w = c .before .before .before .before .pre in
+    omega (arith, both-fit w, w .fair .few)
 
 sub-e : tie.Need-sub-e
 sub-e c = both-fit (c .before .before .before .before .pre)
@@ -38,7 +39,7 @@ element-copy-out-e c = search needs
 cell-at-requires : tie.Need-cell-at-requires
 cell-at-requires c κs =
     let w = c .before .before .before .before .before .pre in
-    (few w, w .fair .given .is-table .cells, w .first, w .second)
+    (w .fair .few, w .fair .is-table .cells, w .first, w .second)
 
 mul-expected : tie.Need-mul-expected
 mul-expected c = search needs
@@ -79,7 +80,7 @@ cast-block-fits-2 c = search needs
 block-fits-requires : tie.Need-block-fits-requires
 block-fits-requires c κs =
     let w = c .before .before .before .before .before .before .before .before .before .before .before .pre in
-    (few w, w .fair .given .is-table .cells, w .fair .small, omega (arith, expected-small w))
+    (w .fair .few, w .fair .is-table .cells, w .fair .small, omega (arith, expected-small w))
 
 returns-2 : tie.Need-returns-2
 returns-2 c =
@@ -95,12 +96,10 @@ cast-block-fits-4 c = search needs
 block-fits-requires-2 : tie.Need-block-fits-requires-2
 block-fits-requires-2 c κs =
     let w = c .before .before .before .before .before .before .before .before .before .before .before .pre in
-    (few w, w .fair .given .is-table .cells, w .fair .small, omega (arith, expected-small w))
+    (w .fair .few, w .fair .is-table .cells, w .fair .small, omega (arith, expected-small w))
 
 returns-3 : tie.Need-returns-3
-returns-3 c =
-    let w = c .before .before .before .before .before .before .before .before .before .before .before .before .pre in
-    along w (c .block-fits2 .ensures)
+returns-3 c = c .block-fits2 .ensures
 
 pub pair-fits-spec : {M : Type 1} → statement M
 pair-fits-spec =

@@ -1,37 +1,57 @@
--- `guided_rebuild::guided_checked` meets its contract: a proposal is refused, or our own rebuild has the
--- same result.
+-- `guided_rebuild::guided_checked` meets its contract: a proposal is refused, or our own rebuild has the same result.
+use mathlib.Core.Path.{_≡_}
 use borrow.Author.Needs.{needs}
 use Rattle.refusals.specs.Refusals.{outcome, written}
 use Rattle.merging.specs.inner.Runs.{halt}
+use Rattle.state_arrays.specs.inner.Fits.{scale-of, Given}
+use Rattle.state_arrays.proofs.StateArrays.{counts-given, holds-start}
 use Rattle.eligible_pairs.proofs.Lent.{no-bytes}
-use Rattle.state_arrays.proofs.StateArrays.{holds-start}
 use Rattle.guided_rebuild.proofs.Proposals.{guided-at, guided-whole}
 use Rattle.guided_rebuild.proofs.guided_checked.Statement.{statement}
 use Rattle.guided_rebuild.proofs.guided_checked.Tie as tie
 
-pair-counts-requires : tie.Need-pair-counts-requires
-pair-counts-requires c κs = search needs
+scaled-counts-requires : tie.Need-scaled-counts-requires
+scaled-counts-requires c κs = search needs
 
-label-leaves-requires : tie.Need-label-leaves-requires
-label-leaves-requires c κs = search needs
+-- what the proposals are tried on, at the scale that is asked for
+given :
+    (c : tie.After-scaled-counts)
+    → let a = c .before .before .before .before .args in
+    let p = c .scaled-counts .result in
+    (scale-of p ≡ a .scale) × Given (a .n) (scale-of p) (a .table .now) p
+given c =
+    let s = c .before .before .before .before in
+    counts-given _ (s .args .scale) _ _ (s .pre .0) (s .pre .1) (s .pre .2) (c .scaled-counts .ensures)
+
+slice-aggregate-own-numbers : tie.Need-slice-aggregate-own-numbers
+slice-aggregate-own-numbers c = search needs
+
+own-numbers-requires : tie.Need-own-numbers-requires
+own-numbers-requires c κs = search needs
 
 accepted-steps-requires : tie.Need-accepted-steps-requires
 accepted-steps-requires c κs =
-    let settled = c .before .before .before .before in
-    let counted = settled .before .before in
+    let labelled = c .before .before .before .before .before in
+    let counted = labelled .before .before in
     let s = counted .before .before .before .before in (
-      record { leaf-count = s .pre .0; is-table = s .pre .1; pair-counts = counted .pair-counts .ensures },
-      s .pre .3,
-      record { came = halt; holds = holds-start (s .args .n) (s .pre .0 .1) (settled .label-leaves .ensures) },
+      given counted .1,
+      s .pre .4,
+      record { came = halt; holds = holds-start (s .args .n) (s .pre .0 .1) (labelled .own-numbers .ensures) },
     )
 
 sub-if1 : tie.Need-sub-if1
 sub-if1 c = search needs
 
+-- the place before the proposals
+abbrev counted : tie.After-accepted-steps → tie.After-scaled-counts
+counted c = c .before .before .before .before .before .before .before .before
+
 returns : tie.Need-returns
 unfolding outcome written
 returns c =
-    let e = guided-at (c .before .accepted-steps .ensures) (c .if1 .taken) in
+    let tried = c .before in
+    let at-step = guided-at (tried .accepted-steps .ensures) (c .if1 .taken) in
+    let e = rw (given (counted tried) .0) at at-step in
     (rw e, rw e)
 
 slice-aggregate-rebuild-checked : tie.Need-slice-aggregate-rebuild-checked
@@ -39,9 +59,8 @@ slice-aggregate-rebuild-checked c = search needs
 
 rebuild-checked-requires : tie.Need-rebuild-checked-requires
 rebuild-checked-requires c κs =
-    let followed = c .before .before .before in
-    let s = followed .before .before .before .before .before .before .before .before .before .before .before in
-    (s .pre .0, rw (no-bytes (s .args .n) (s .args .table .now)) (s .pre .1), s .pre .2)
+    let s = counted (c .before .before .before) .before .before .before .before in
+    (s .pre .0, s .pre .1, rw (no-bytes (s .args .n) (s .args .table .now)) (s .pre .2), s .pre .3)
 
 same-length : tie.Need-same-length
 same-length c = search needs
@@ -49,17 +68,22 @@ same-length c = search needs
 returns-2 : tie.Need-returns-2
 returns-2 c =
     let passed = c .before .before .before .before .before in
-    let followed = passed .before in
-    let s = followed .before .before .before .before .before .before .before .before .before .before .before in
-    let e = guided-whole (followed .accepted-steps .ensures) (s .pre .0) (s .pre .1) (s .pre .3) (passed .if1 .left) in
+    let tried = passed .before in
+    let g = given (counted tried) in
+    let s = counted tried .before .before .before .before in
+    let whole =
+    guided-whole (tried .accepted-steps .ensures) (s .pre .0) (g .1 .scaled .0) (s .pre .2) (s .pre .4)
+    (passed .if1 .left) in
+    let e = rw (g .0) at whole in
     rw e (rw (no-bytes (s .args .n) (s .args .table .now)) at (c .before .before .rebuild-checked .ensures))
 
 pub guided-checked-spec : {M : Type 1} → statement M
 guided-checked-spec =
     tie.close
     (tie.spec
-    pair-counts-requires
-    label-leaves-requires
+    scaled-counts-requires
+    slice-aggregate-own-numbers
+    own-numbers-requires
     accepted-steps-requires
     sub-if1
     returns

@@ -1,8 +1,9 @@
--- `guided_rebuild::rebuild_guided` meets its contract: what is judged is the number of proposals and then the table, and
+-- `guided_rebuild::rebuild_guided` meets its contract: the number of proposals is judged and then the table, and
 -- `guided_checked` follows the proposals.
 use mathlib.Core.Path.{_≡_, ap, _∙_}
 use mathlib.Core.Option.{none}
 use Prim.Native.Nat.{_-_, _*_}
+use native.Mathlib.Omega.{arith}
 use borrow.Author.Needs.{needs}
 use lib.ListN.{length}
 use Rattle.limits.specs.declared.Kind.the-variants.{Counts}
@@ -84,7 +85,7 @@ guided-checked-requires : tie.Need-guided-checked-requires
 guided-checked-requires c κs =
     let sizes = guided-sizes _ _ _ _ (passed (c .before)) in
     let a = accepted-table _ _ _ _ (sizes .1) in
-    (a .count, a .is-table, a .room-enough, sizes .0)
+    (a .count, (omega arith, omega arith), a .is-table, a .room-enough, sizes .0)
 
 same-length : tie.Need-same-length
 same-length c = search needs

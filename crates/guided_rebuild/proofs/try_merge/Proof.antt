@@ -9,8 +9,8 @@ use borrow.Author.Tests.{not-true, not-false}
 use Rattle.base.proofs.Bools.{never}
 use Rattle.state_arrays.specs.inner.Fits.{SubtreesFit}
 use Rattle.eligible_pairs.proofs.Lent.{no-bytes}
-use Rattle.guided_rebuild.proofs.Proposals.{proposal-refused, proposal-accepted, one-label, two-labels, merges-up}
-use Rattle.guided_rebuild.proofs.Proposals.{merges-down, labels-fit, merged-up, merged-down}
+use Rattle.guided_rebuild.proofs.Proposals.{proposal-refused, proposal-accepted, one-label, two-labels}
+use Rattle.guided_rebuild.proofs.Proposals.{merges-up, merges-down, labels-fit, merged-up, merged-down}
 use Rattle.guided_rebuild.proofs.try_merge.Statement.{statement}
 use Rattle.guided_rebuild.proofs.try_merge.Tie as tie
 
@@ -32,7 +32,7 @@ meets-told :
     (c : tie.After-pair-fits)
     → (let a = c .before .before .before .before .before .before .before .args in
     (c .pair-fits .result ≡ true)
-    ↔ SubtreesFit (a .n) (a .table .now) (a .label .now) (a .m .now) (a .sizes .now) (a .a) (a .b))
+    ↔ SubtreesFit (a .n) (a .table .now) (a .label .now) (a .m .now) (a .sizes .now) (a .p .now) (a .a) (a .b))
 meets-told c =
     let a = c .before .before .before .before .before .before .before .args in
     rw (no-bytes (a .n) (a .table .now)) at (c .pair-fits .ensures)

@@ -3,21 +3,20 @@
 use Prim.Native.Nat.{_-_, _<_}
 use native.Mathlib.Omega.{arith}
 use Rattle.eligible_pairs.specs.inner.Lent.{lent-table}
-use Rattle.state_arrays.specs.inner.Fits.{Given}
+use Rattle.state_arrays.specs.inner.Fits.{scale-of, Given}
 use Rattle.leaf_merges.specs.inner.Partners.{Partner}
 use Rattle.leaf_merges.specs.inner.LeafMerges.{MergingLeaf}
 use Rattle.leaf_merges.proofs.LeafMerges.{begin, own-label, leaf-merge-sizes-fit, merges, leaf-merge-room}
-use Rattle.leaf_merges.proofs.LeafMerges.{leaf-merge-step}
-use Rattle.leaf_merges.proofs.LeafMerges.{leaf-merge-over}
+use Rattle.leaf_merges.proofs.LeafMerges.{leaf-merge-names, leaf-merge-step, leaf-merge-over}
 use Rattle.leaf_merges.proofs.merge_leaf.Statement.{statement}
 use Rattle.leaf_merges.proofs.merge_leaf.Tie as tie
 
 abbrev Inv-loop : tie.InvT-loop
 Inv-loop n table packed label₀ m₀ sizes₀ names₀ rows₀ p t made r₀ k₀ label m sizes names rows r k =
-    Given n (lent-table n table packed) p
+    Given n (scale-of p) (lent-table n table packed) p
     × (t < n)
-    × MergingLeaf n (lent-table n table packed) label m sizes names rows r t
-    × Partner n (lent-table n table packed) label m sizes t k
+    × MergingLeaf n (scale-of p) (lent-table n table packed) label m sizes names rows r t
+    × Partner n (lent-table n table packed) label m sizes p t k
 
 abbrev μ-loop : tie.MeasureT-loop
 μ-loop n table packed label₀ m₀ sizes₀ names₀ rows₀ p t made r₀ k₀ label m sizes names rows r k = n - r
@@ -43,7 +42,10 @@ add-row-requires c κs =
     let l = c .before .before .before .before .before .before .before .loop in
     let room = leaf-merge-room (l .inv .0) (l .inv .2) (l .inv .1) (l .k) (omega arith)
     (l .inv .3 .hit (omega arith)) in
-    (l .inv .0 .leaf-count .1, l .inv .1, omega arith, omega (arith, l .inv .0 .leaf-count .1, room))
+    let few = l .inv .0 .leaf-count .1 in
+    let names = leaf-merge-names (l .inv .0) (l .inv .2) (l .inv .1) (l .k) (omega arith)
+    (l .inv .3 .hit (omega arith)) in
+    (few, l .inv .1, omega arith, omega (arith, few, room), names .0, names .1)
 
 add-r : tie.Need-add-r Inv-loop μ-loop
 add-r c =

@@ -1,4 +1,6 @@
 -- `leaf_merges::partner` meets its contract. The loop's invariant: no label passed may be merged with `a`.
+use mathlib.Core.Path.{sym, _∙_}
+use mathlib.Core.Logic.{inl, inr}
 use Prim.Native.Nat.{ℕ, _-_, _≤_, _<_}
 use native.Mathlib.Omega.{arith}
 use borrow.Author.Count.{below-more}
@@ -11,7 +13,7 @@ use Rattle.leaf_merges.proofs.partner.Tie as tie
 
 abbrev Inv-loop : tie.InvT-loop
 Inv-loop n table packed label m sizes p a b₀ b =
-    (a < b) × (b ≤ n) × ((i : ℕ) → i < b → a < i → Joins n (lent-table n table packed) label m sizes a i → ⊥)
+    (a < b) × (b ≤ n) × ((i : ℕ) → i < b → a < i → Joins n (lent-table n table packed) label m sizes p a i → ⊥)
 
 abbrev μ-loop : tie.MeasureT-loop
 μ-loop n table packed label m sizes p a b₀ b = n - b
@@ -22,15 +24,28 @@ add-b c = search needs
 loop-holds : tie.Need-loop-holds Inv-loop μ-loop
 loop-holds c = (omega arith, omega arith, λ i l al. absurd (omega arith))
 
-joins-requires : tie.Need-joins-requires Inv-loop μ-loop
-joins-requires c κs = search needs
+mul-index-of-u32 : tie.Need-mul-index-of-u32 Inv-loop μ-loop
+mul-index-of-u32 c = search needs
+
+element-copy-out-index-of-u32 : tie.Need-element-copy-out-index-of-u32 Inv-loop μ-loop
+element-copy-out-index-of-u32 c = search needs
+
+index-of-u32-requires : tie.Need-index-of-u32-requires Inv-loop μ-loop
+index-of-u32-requires c κs = search needs
+
+pair-fits-requires : tie.Need-pair-fits-requires Inv-loop μ-loop
+pair-fits-requires c κs = search needs
 
 returns : tie.Need-returns Inv-loop μ-loop
-returns c = record {
-  within = omega arith;
-  hit = λ l. (omega arith, c .before .joins .ensures .0 (c .if1 .taken));
-  miss = λ l. absurd (omega arith);
-}
+returns c =
+    let fit = c .before in
+    let labelled = fit .before in
+    let own = sym (labelled .before .index-of-u32 .ensures) ∙ labelled .if1 .taken in
+    record {
+      within = omega arith;
+      hit = λ l. (omega arith, (own, fit .pair-fits .ensures .0 (c .if2 .taken)));
+      miss = λ l. absurd (omega arith);
+    }
 
 add-b-2 : tie.Need-add-b-2 Inv-loop μ-loop
 add-b-2 c = search needs
@@ -40,8 +55,14 @@ loop-less c = search needs
 
 loop-again : tie.Need-loop-again Inv-loop μ-loop
 loop-again c =
-    let seen = c .before .before .before .loop .inv .2 in
-    (omega arith, omega arith, below-more _ _ seen (λ l q. never (c .before .joins .ensures .1 q) (c .if1 .left)))
+    let seen = c .before .before .before .before .loop .inv .2 in (
+      omega arith,
+      omega arith,
+      below-more _ _ seen (λ l q. elim (c .if1 .came) [
+        | inl w ↦ never (w .1 .ensures .1 (q .1)) (w .2 .left)
+        | inr w ↦ w .left (c .before .index-of-u32 .ensures ∙ q .0)
+      ]),
+    )
 
 returns-2 : tie.Need-returns-2 Inv-loop μ-loop
 returns-2 c = record {
@@ -58,7 +79,10 @@ partner-spec =
     μ-loop
     add-b
     loop-holds
-    joins-requires
+    mul-index-of-u32
+    element-copy-out-index-of-u32
+    index-of-u32-requires
+    pair-fits-requires
     returns
     add-b-2
     loop-less

@@ -3,7 +3,7 @@ use mathlib.Core.Path.{_≡_}
 use mathlib.Core.Bool.{true, false}
 use mathlib.Core.List.{List}
 use Prim.Native.Nat.{ℕ, _+_, _*_, _≤_, _<_}
-use lib.ListN.{length, getD, take, replicate}
+use lib.ListN.{length, getD, take}
 use Rattle.limits.specs.Limits.{most-leaves}
 use Rattle.trees.specs.Trees.{Tree, leaf, leaves, least}
 use Rattle.trees.specs.Listings.{subtree-at}
@@ -29,46 +29,38 @@ pub record Listed (n : ℕ) (label names rows : List ℕ) (r : ℕ) (S : State) 
 
 -- leaf t's subtree, not leaf 0's, is the current one: leaves below t are single, t is its least leaf, and no two of the
 -- other subtrees are eligible
-pub record Current (n : ℕ) (table : List ℕ) (t : ℕ) (S : State) : Type 0 where
+pub record Current (n s : ℕ) (table : List ℕ) (t : ℕ) (S : State) : Type 0 where
   pub positive : 0 < t
   pub low : (k : ℕ) → k < t → S .tree k ≡ leaf k
   pub own : least (S .tree t) ≡ t
   pub spent :
       (a b : ℕ) → t < a → t < b → leaves (S .tree t) a ≡ false → leaves (S .tree t) b ≡ false
-      → Eligible n 1 (cell n table) S a b → ⊥
+      → Eligible n s (cell n table) S a b → ⊥
 
 -- no leaf's subtree is the current one: leaves below t are single, and no two subtrees of the others are eligible
-pub record NoneEligible (n : ℕ) (table : List ℕ) (t : ℕ) (S : State) : Type 0 where
+pub record NoneEligible (n s : ℕ) (table : List ℕ) (t : ℕ) (S : State) : Type 0 where
   pub low : (k : ℕ) → k < t → S .tree k ≡ leaf k
-  pub spent : (a b : ℕ) → t ≤ a → t ≤ b → Eligible n 1 (cell n table) S a b → ⊥
+  pub spent : (a b : ℕ) → t ≤ a → t ≤ b → Eligible n s (cell n table) S a b → ⊥
 
 -- the arrays after r merges, and the state S that these reached
-pub record ArraysAfter (n : ℕ) (table label m sizes names rows : List ℕ) (r : ℕ) (S : State) : Type 0 where
-  pub came : Runs n 1 (cell n table) start S
-  pub holds : HoldsState n label m sizes S
+pub record ArraysAfter (n s : ℕ) (table label m sizes names rows : List ℕ) (r : ℕ) (S : State) : Type 0 where
+  pub came : Runs n s (cell n table) start S
+  pub holds : HoldsState n s label m sizes S
   pub listed : Listed n label names rows r S
 
 -- while the subtree of leaf t is merged
-pub record MergingLeaf (n : ℕ) (table label m sizes names rows : List ℕ) (r t : ℕ) : Type 0 where
+pub record MergingLeaf (n s : ℕ) (table label m sizes names rows : List ℕ) (r t : ℕ) : Type 0 where
   pub state : State
-  pub forest : ArraysAfter n table label m sizes names rows r state
-  pub current : Current n table t state
+  pub forest : ArraysAfter n s table label m sizes names rows r state
+  pub current : Current n s table t state
 
 -- when the subtrees of the leaves from t on have been merged
-pub record LeavesMerged (n : ℕ) (table label m sizes names rows : List ℕ) (r t : ℕ) : Type 0 where
+pub record LeavesMerged (n s : ℕ) (table label m sizes names rows : List ℕ) (r t : ℕ) : Type 0 where
   pub state : State
-  pub forest : ArraysAfter n table label m sizes names rows r state
-  pub done : NoneEligible n table t state
+  pub forest : ArraysAfter n s table label m sizes names rows r state
+  pub done : NoneEligible n s table t state
 
 -- when those of all leaves but 0 have been merged
-pub record AllMerged (n : ℕ) (table label m sizes names rows : List ℕ) : Type 0 where
+pub record AllMerged (n s : ℕ) (table label m sizes names rows : List ℕ) : Type 0 where
   pub many : ℕ
-  pub all-merged : LeavesMerged n table label m sizes names rows many 1
-
--- the arrays as they are made
-pub record Fresh (label m sizes names rows : List ℕ) : Type 0 where
-  pub label-made : label ≡ replicate most-leaves 0
-  pub m-made : m ≡ replicate most-leaves 0
-  pub sizes-made : sizes ≡ replicate most-leaves 1
-  pub names-made : names ≡ replicate most-leaves 0
-  pub rows-made : rows ≡ replicate (2 * most-leaves) 0
+  pub all-merged : LeavesMerged n s table label m sizes names rows many 1

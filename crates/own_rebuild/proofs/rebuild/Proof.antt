@@ -2,6 +2,7 @@
 use mathlib.Core.Path.{_≡_, ap, _∙_}
 use mathlib.Core.Option.{none}
 use Prim.Native.Nat.{_-_, _*_}
+use native.Mathlib.Omega.{arith}
 use borrow.Author.Needs.{needs}
 use lib.ListN.{length}
 use Rattle.refusals.specs.Refusals.{outcome-of, outcome}
@@ -53,7 +54,8 @@ rebuild-checked-requires c κs =
     let told = c .before .before in
     let s = told .before .before .before .before .before .before in
     let a = accepted-table _ _ _ _ (passed told) in
-    (a .count, rw (no-bytes (s .args .n) (s .args .table .now)) (a .is-table), a .room-enough)
+    let meant = no-bytes (s .args .n) (s .args .table .now) in
+    (a .count, (omega arith, omega arith), rw meant (a .is-table), a .room-enough)
 
 same-length : tie.Need-same-length
 same-length c = search needs

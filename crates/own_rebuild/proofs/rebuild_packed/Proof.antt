@@ -4,6 +4,7 @@ use mathlib.Core.Path.{_≡_, ap, _∙_}
 use mathlib.Core.Option.{none}
 use mathlib.Core.List.{List, []}
 use Prim.Native.Nat.{ℕ, _-_, _*_}
+use native.Mathlib.Omega.{arith}
 use borrow.Author.Needs.{needs}
 use lib.ListN.{length}
 use Rattle.limits.specs.declared.Kind.the-variants.{Counts}
@@ -74,7 +75,7 @@ slice-aggregate-rebuild-checked c = search needs
 rebuild-checked-requires : tie.Need-rebuild-checked-requires
 rebuild-checked-requires c κs =
     let told = c .before .before in
-    (right told .count, rw (packed-meant told []) (sheet-is-table _ _), right told .enough)
+    (right told .count, (omega arith, omega arith), rw (packed-meant told []) (sheet-is-table _ _), right told .enough)
 
 same-length : tie.Need-same-length
 same-length c = search needs

@@ -4,9 +4,8 @@ use Prim.Native.Nat.{_+_, _-_, _≤_}
 use native.Mathlib.Omega.{arith}
 use borrow.Author.Needs.{needs}
 use lib.ListN.{getD}
-use Rattle.limits.specs.Limits.{most-leaves}
-use Rattle.pair_counts.specs.Pairs.{P}
 use Rattle.pair_counts.proofs.Pairs.{P-most}
+use Rattle.state_arrays.specs.inner.Fits.{largest-sum}
 use Rattle.state_arrays.specs.inner.Merged.{Gathered}
 use Rattle.state_arrays.proofs.Merged.{growth-le, gather-none, m-next, gather-turn, gather-end}
 use Rattle.state_arrays.proofs.gather.Statement.{statement}
@@ -46,7 +45,7 @@ add-m c =
       s .pre .3 (l .x) (omega arith),
       m-next _ _ _ _ _ _ (l .inv .1) (omega arith),
       c .before .grow .ensures,
-      growth-le (getD (l .label) (l .x) 0) (s .args .a) (s .args .b) (s .args .pa) (s .args .pb) (P most-leaves)
+      growth-le (getD (l .label) (l .x) 0) (s .args .a) (s .args .b) (s .args .pa) (s .args .pb) largest-sum
           (s .pre .4) (s .pre .5),
     )
 

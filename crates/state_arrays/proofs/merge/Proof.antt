@@ -1,7 +1,7 @@
 -- `state_arrays::merge` meets its contract: `gather`, at the pair counts of the two sizes.
 use mathlib.Core.Path.{refl}
 use borrow.Author.Needs.{needs}
-use Rattle.state_arrays.proofs.Merged.{first-pairs, second-pairs, pairs-small}
+use Rattle.state_arrays.proofs.Merged.{pairs-small}
 use Rattle.state_arrays.proofs.merge.Statement.{statement}
 use Rattle.state_arrays.proofs.merge.Tie as tie
 
@@ -51,8 +51,7 @@ element-write-sizes c = search needs
 
 returns : tie.Need-returns
 returns c =
-    let w = c .before .before .before .before .before .before .before .pre in
-    record { gathered = rw (first-pairs w, second-pairs w) at (c .gather .ensures); summed = refl }
+    record { gathered = c .gather .ensures; summed = refl }
 
 pub merge-spec : {M : Type 1} → statement M
 merge-spec =

@@ -5,9 +5,8 @@ use mathlib.Core.List.{List}
 use Prim.Native.Nat.{ℕ, _+_, _≤_, _<_}
 use lib.Dec.{eqb}
 use lib.ListN.{length, getD, set}
-use Rattle.base.specs.Lists.{tab, filled}
+use Rattle.base.specs.Lists.{filled}
 use Rattle.limits.specs.Limits.{most-leaves}
-use Rattle.pair_counts.specs.Pairs.{P}
 use Rattle.state_arrays.specs.inner.Fits.{SmallSums}
 
 -- the label l afterwards
@@ -36,12 +35,12 @@ pub record MergeReady (n : ℕ) (label m sizes p : List ℕ) (a b : ℕ) : Type 
   pub label-long : length label ≡ most-leaves
   pub m-long : length m ≡ most-leaves
   pub small : SmallSums n m
-  pub pair-counts : p ≡ tab (most-leaves + 1) P
+  pub small-counts : SmallSums (n + 1) p
   pub first : a < n
   pub second : b < n
   pub room : getD sizes a 0 + getD sizes b 0 ≤ n
 
 -- all arrays afterwards
-pub record Merged (n : ℕ) (label m sizes label′ m′ sizes′ : List ℕ) (a b : ℕ) : Type 0 where
-  pub gathered : Gathered n label m label′ m′ a b (P (getD sizes a 0)) (P (getD sizes b 0))
+pub record Merged (n : ℕ) (label m sizes p label′ m′ sizes′ : List ℕ) (a b : ℕ) : Type 0 where
+  pub gathered : Gathered n label m label′ m′ a b (getD p (getD sizes a 0) 0) (getD p (getD sizes b 0) 0)
   pub summed : sizes′ ≡ set sizes a (getD sizes a 0 + getD sizes b 0)
