@@ -1,7 +1,7 @@
 -- A rebuild as it is judged, of a packed table and a guided one: what the code works out as due, and what holds where
 -- nothing is refused.
 use mathlib.Core.Path.{_≡_, _∙_}
-use mathlib.Core.List.{List, []}
+use mathlib.Core.List.{List}
 use mathlib.Core.Option.{none}
 use Prim.Native.Nat.{ℕ, _-_, _*_, _/_, _≤_}
 use native.Mathlib.Omega.{arith}
