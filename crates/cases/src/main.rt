@@ -156,51 +156,6 @@ fn leaf_count(n: usize) {
     say(own_rebuild::rebuild(n, &cells, &mut rebuilt));
 }
 
-// A poll of n leaves that has this one record.
-fn poll_of_one(n: usize, r: polls::Record, out: &mut [u32]) -> Outcome {
-    let records = [r];
-    polls::poll(n, &records, out)
-}
-
-// What is answered to the poll of four leaves in which 0 is paired with 2, for this leaf count.
-fn poll_leaf_count(n: usize, out: &mut [u32]) {
-    let r = polls::Record {
-        a: 0,
-        b: 1,
-        c: 2,
-        d: 3,
-        code: 1,
-    };
-    say(poll_of_one(n, r, out));
-}
-
-// One row of a table of four leaves.
-fn say_row(a: u32, b: u32, c: u32, d: u32) {
-    io::print_decimal(1, a as u64);
-    io::write_all(1, b" ");
-    io::print_decimal(1, b as u64);
-    io::write_all(1, b" ");
-    io::print_decimal(1, c as u64);
-    io::write_all(1, b" ");
-    io::print_decimal(1, d as u64);
-    io::write_all(1, b"\n");
-}
-
-// Polls of 3, 33 and 4 leaves, and the sums of the last.
-fn polls_of_one() {
-    let mut sums = [0u32; 16];
-    io::write_all(1, b"poll, 3 leaves: ");
-    poll_leaf_count(3, &mut sums);
-    io::write_all(1, b"poll, 33 leaves: ");
-    poll_leaf_count(33, &mut sums);
-    io::write_all(1, b"poll, 4 leaves, 0 with 2: ");
-    poll_leaf_count(4, &mut sums);
-    say_row(sums[0], sums[1], sums[2], sums[3]);
-    say_row(sums[4], sums[5], sums[6], sums[7]);
-    say_row(sums[8], sums[9], sums[10], sums[11]);
-    say_row(sums[12], sums[13], sums[14], sums[15]);
-}
-
 // What was answered of a sheet, with the leaf where a name is bad.
 fn say_of_names(answer: Outcome) {
     let Outcome::Refused(cause) = answer else {
@@ -286,7 +241,6 @@ fn main() {
     leaf_count(limits::MOST_LEAVES + 1);
     io::write_all(1, b"check, table and rebuild, the most leaves:\n");
     leaf_count(limits::MOST_LEAVES);
-    polls_of_one();
     sheet_of_five();
     name_lengths();
 }
