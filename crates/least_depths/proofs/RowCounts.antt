@@ -75,8 +75,8 @@ module _ (n : ℕ) (l : List ℕ) (count : IsLeafCount n) (keeps : KeepsRules n 
 
     pub row-asked :
         {i : ℕ} (tops : List ℕ) → i < n → length tops ≡ most-leaves
-        → LeafOrder n order × (at places i < n) × (at aboves i ≤ most-sum) × (length tops ≡ most-leaves)
-    row-asked {i} tops li long = (leaf-order, place-below i li, above-small i li, long)
+        → LeafOrder n order × (i < n) × (at places i < n) × (at aboves i ≤ most-sum) × (length tops ≡ most-leaves)
+    row-asked {i} tops li long = (leaf-order, li, place-below i li, above-small i li, long)
 
     -- the counts of row i
     module _ {i base : ℕ} {tops : List ℕ} (li : i < n) (eb : base ≡ at aboves i)

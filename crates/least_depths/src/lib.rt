@@ -91,10 +91,10 @@ fn leftwards(
 
 // What the counts of a row are found from, for the crates above: the least depth between the place p of the row's leaf
 // and that of each other leaf. The leaf itself, above which `base` pairs branch off, keeps what makes its own count 0.
-pub fn find_row<'a>(
+fn find_tops(
     n: usize,
-    order: &'a [usize; MOST_LEAVES],
-    depths: &'a [u32; MOST_LEAVES],
+    order: &[usize; MOST_LEAVES],
+    depths: &[u32; MOST_LEAVES],
     p: usize,
     base: u32,
     tops: &mut [u32; MOST_LEAVES],
@@ -107,6 +107,28 @@ pub fn find_row<'a>(
     leftwards(n, order, depths, p, tops);
     let i = order[p];
     tops[i] = WHOLE - (base + base);
+}
+
+// What the counts of row i are found from: the least depth between leaf i and each leaf, and what branches off above
+// leaf i. For the crates above.
+pub fn find_row<'a>(
+    n: usize,
+    places: &'a [usize; MOST_NODES],
+    aboves: &'a [u32; MOST_NODES],
+    order: &'a [usize; MOST_LEAVES],
+    depths: &'a [u32; MOST_LEAVES],
+    i: usize,
+    tops: &mut [u32; MOST_LEAVES],
+) -> u32
+    requires { ⌜ LeafOrder n (now order) × (i < n) × (getD (now places) i 0 < n) × (getD (now aboves) i 0 ≤ most-sum)
+        × (length (now tops) ≡ most-leaves) ⌝ }
+    ensures { λ r. ⌜ (r ≡ getD (now (aboves .entry)) i 0)
+        × LeastDepths n (now (order .entry)) (now (depths .entry)) (getD (now (places .entry)) i 0) (whole - (r + r))
+        (now (tops .exit)) ⌝ }
+{
+    let above = aboves[i];
+    find_tops(n, order, depths, places[i], above, tops);
+    above
 }
 
 // The count of a cell in the column of leaf j, for the crates above.

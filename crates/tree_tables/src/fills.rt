@@ -80,14 +80,12 @@ pub(crate) fn fill_table(n: usize, listing: &[u16], out: &mut [u32])
     ensures { λ _. ⌜ now (out .exit)
         ≡ table-of n (tree-of n (now (listing .entry))) ++ drop (n * n) (now (out .entry)) ⌝ }
 {
-    let plan = leaf_order(n, listing);
+    let p = leaf_order(n, listing);
     let mut tops = [0u32; MOST_LEAVES];
     let mut i: usize = 0;
     while i < n {
-        let base = plan.aboves[i];
-        let p = plan.places[i];
-        find_row(n, &plan.order, &plan.depths, p, base, &mut tops);
-        write_row(n, i, base, &plan.aboves, &tops, out);
+        let base = find_row(n, &p.places, &p.aboves, &p.order, &p.depths, i, &mut tops);
+        write_row(n, i, base, &p.aboves, &tops, out);
         i += 1;
     }
 }
@@ -99,14 +97,12 @@ pub(crate) fn fill_gap(n: usize, scale: u32, cells: &[u32], listing: &[u16], out
     ensures { λ _. ⌜ now (out .exit)
         ≡ gaps n scale (now (cells .entry)) (tree-of n (now (listing .entry))) ++ drop (n * n) (now (out .entry)) ⌝ }
 {
-    let plan = leaf_order(n, listing);
+    let p = leaf_order(n, listing);
     let mut tops = [0u32; MOST_LEAVES];
     let mut i: usize = 0;
     while i < n {
-        let base = plan.aboves[i];
-        let p = plan.places[i];
-        find_row(n, &plan.order, &plan.depths, p, base, &mut tops);
-        subtract_row(n, i, scale, base, &plan.aboves, &tops, cells, out);
+        let base = find_row(n, &p.places, &p.aboves, &p.order, &p.depths, i, &mut tops);
+        subtract_row(n, i, scale, base, &p.aboves, &tops, cells, out);
         i += 1;
     }
 }

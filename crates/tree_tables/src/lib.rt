@@ -14,7 +14,7 @@ pub fn table(n: usize, listing: &[u16], out: &mut [u32]) -> Outcome
     ensures buffer { λ r. ⌜ now (out .exit)
         ≡ written (table-answer n (now (listing .entry)) (length (now (out .entry)))) (now (out .entry)) ⌝ }
 {
-    let judged = listings::judge(n, listing, checks::table_cells(n), out.len());
+    let judged = listings::judge_for_cells(n, listing, out.len());
     let Outcome::Done = judged else {
         return judged;
     };
@@ -31,7 +31,7 @@ fn judge_gap(n: usize, cells: &[u32], listing: &[u16], room: usize) -> Outcome
     let Outcome::Done = sizes else {
         return sizes;
     };
-    let listed = listings::judge(n, listing, n * n, room);
+    let listed = listings::judge_for_cells(n, listing, room);
     let Outcome::Done = listed else {
         return listed;
     };

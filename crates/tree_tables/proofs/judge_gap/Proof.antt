@@ -1,16 +1,14 @@
 -- `tree_tables::judge_gap` meets its contract: the sizes stop it, or the listing does, or the cells decide.
-use mathlib.Core.Path.{_≡_, sym, ap, _∙_}
+use mathlib.Core.Path.{_≡_, ap, _∙_}
 use mathlib.Core.Option.{none}
 use Prim.Native.Nat.{_*_}
-use native.Mathlib.Omega.{arith}
 use borrow.Author.Needs.{needs}
 use lib.ListN.{length}
 use Rattle.limits.specs.declared.Kind.the-variants.{Counts}
-use Rattle.limits.proofs.TablePlaces.{square-small}
 use Rattle.refusals.specs.Refusals.{outcome-of}
 use Rattle.refusals.proofs.Answers.{call-passed}
 use Rattle.checks.specs.Sizes.{input-refusal}
-use Rattle.checks.proofs.Sizes.{input-due, input-right}
+use Rattle.checks.proofs.Sizes.{input-due}
 use Rattle.tree_tables.proofs.TableAnswers.{sizes-stop, listing-stops, cells-decide}
 use Rattle.tree_tables.proofs.judge_gap.Statement.{statement}
 use Rattle.tree_tables.proofs.judge_gap.Tie as tie
@@ -44,11 +42,8 @@ fine :
     input-refusal Counts (a .n) (a .n * a .n) (length (a .cells .now)) ≡ none
 fine c = call-passed _ (sizes (c .before .before)) (c .enum-told .given .1)
 
-mul-judge : tie.Need-mul-judge
-mul-judge c = let few = input-right _ _ _ _ (fine c) .0 .1 in omega (arith, few, square-small _ few)
-
-judge-requires : tie.Need-judge-requires
-judge-requires c κs = search needs
+judge-for-cells-requires : tie.Need-judge-for-cells-requires
+judge-for-cells-requires c κs = search needs
 
 enum-told-3 : tie.Need-enum-told-3
 enum-told-3 c = search needs
@@ -59,16 +54,16 @@ enum-told-4 c = search needs
 returns-2 : tie.Need-returns-2
 returns-2 c =
     let made = c .before .before in
-    listing-stops _ _ _ _ (fine (made .before)) (made .judge .ensures) (c .enum-told4 .given .1)
+    listing-stops _ _ _ _ (fine (made .before)) (made .judge-for-cells .ensures) (c .enum-told4 .given .1)
 
-judge-requires-2 : tie.Need-judge-requires-2
-judge-requires-2 c κs = search needs
+judge-requires : tie.Need-judge-requires
+judge-requires c κs = search needs
 
 returns-3 : tie.Need-returns-3
 returns-3 c =
     let made = c .before .before .before in
-    cells-decide _ _ _ _ (fine (made .before)) (made .judge .ensures) (c .before .enum-told3 .given .1)
-    (c .judge2 .ensures)
+    cells-decide _ _ _ _ (fine (made .before)) (made .judge-for-cells .ensures) (c .before .enum-told3 .given .1)
+    (c .judge .ensures)
 
 pub judge-gap-spec : {M : Type 1} → statement M
 judge-gap-spec =
@@ -79,10 +74,9 @@ judge-gap-spec =
     enum-told
     enum-told-2
     returns
-    mul-judge
-    judge-requires
+    judge-for-cells-requires
     enum-told-3
     enum-told-4
     returns-2
-    judge-requires-2
+    judge-requires
     returns-3)

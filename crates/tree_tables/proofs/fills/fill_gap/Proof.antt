@@ -36,18 +36,6 @@ leaf-order-requires c κs = let p = c .before .before .pre in (p .0, p .3)
 loop-holds : tie.Need-loop-holds Inv-loop μ-loop
 loop-holds c = let s = c .before .before .before in (omega arith, refl, rows-none (f s) _ _)
 
-mul-base : tie.Need-mul-base Inv-loop μ-loop
-mul-base c = search needs
-
-element-copy-out-base : tie.Need-element-copy-out-base Inv-loop μ-loop
-element-copy-out-base c = search needs
-
-mul-p : tie.Need-mul-p Inv-loop μ-loop
-mul-p c = search needs
-
-element-copy-out-p : tie.Need-element-copy-out-p Inv-loop μ-loop
-element-copy-out-p c = search needs
-
 find-row-requires : tie.Need-find-row-requires Inv-loop μ-loop
 find-row-requires c κs =
     let i = c .before .before .before .before .before .before .before .loop in
@@ -68,7 +56,7 @@ subtract-row-requires c κs =
         row = tested .loop-test .taken;
         enough = omega (arith, s .pre .4, long);
         found = row-found _ _ (s .pre .0) (s .pre .3) (made .leaf-order .ensures) (tested .loop-test .taken)
-            refl found;
+            (found .0) (found .1);
       },
       s .pre .1,
       s .pre .2,
@@ -89,9 +77,10 @@ loop-again c =
     let made = tested .before .before in
     let s = made .before .before .before in
     let cell =
-    cell-is _ _ (s .pre .0) (s .pre .3) (made .leaf-order .ensures) (tested .loop-test .taken) refl found in
+    cell-is _ _ (s .pre .0) (s .pre .3) (made .leaf-order .ensures) (tested .loop-test .taken)
+    (found .0) (found .1) in
     let more = put .subtract-row .ensures (f s) _ (λ j lj. rw (cell j lj)) (i .inv .2) in
-    (omega arith, found .long, rows-more (f s) _ (s .args .n) (i .i) more)
+    (omega arith, found .1 .long, rows-more (f s) _ (s .args .n) (i .i) more)
 
 same-length : tie.Need-same-length Inv-loop μ-loop
 same-length c =
@@ -114,10 +103,6 @@ fill-gap-spec =
     μ-loop
     leaf-order-requires
     loop-holds
-    mul-base
-    element-copy-out-base
-    mul-p
-    element-copy-out-p
     find-row-requires
     subtract-row-requires
     add-i

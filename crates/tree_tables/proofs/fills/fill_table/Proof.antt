@@ -35,18 +35,6 @@ leaf-order-requires c κs = let p = c .before .before .pre in (p .0, p .1)
 loop-holds : tie.Need-loop-holds Inv-loop μ-loop
 loop-holds c = let s = c .before .before .before in (omega arith, refl, rows-none (f s) _ _)
 
-mul-base : tie.Need-mul-base Inv-loop μ-loop
-mul-base c = search needs
-
-element-copy-out-base : tie.Need-element-copy-out-base Inv-loop μ-loop
-element-copy-out-base c = search needs
-
-mul-p : tie.Need-mul-p Inv-loop μ-loop
-mul-p c = search needs
-
-element-copy-out-p : tie.Need-element-copy-out-p Inv-loop μ-loop
-element-copy-out-p c = search needs
-
 find-row-requires : tie.Need-find-row-requires Inv-loop μ-loop
 find-row-requires c κs =
     let i = c .before .before .before .before .before .before .before .loop in
@@ -66,8 +54,8 @@ write-row-requires c κs =
       few = s .pre .0 .1;
       row = tested .loop-test .taken;
       enough = omega (arith, s .pre .2, long);
-      found = row-found _ _ (s .pre .0) (s .pre .1) (made .leaf-order .ensures) (tested .loop-test .taken) refl
-          found;
+      found = row-found _ _ (s .pre .0) (s .pre .1) (made .leaf-order .ensures) (tested .loop-test .taken)
+          (found .0) (found .1);
     }
 
 add-i : tie.Need-add-i Inv-loop μ-loop
@@ -85,9 +73,10 @@ loop-again c =
     let made = tested .before .before in
     let s = made .before .before .before in
     let cell =
-    cell-is _ _ (s .pre .0) (s .pre .1) (made .leaf-order .ensures) (tested .loop-test .taken) refl found in
+    cell-is _ _ (s .pre .0) (s .pre .1) (made .leaf-order .ensures) (tested .loop-test .taken)
+    (found .0) (found .1) in
     let more = put .write-row .ensures (f s) _ cell (i .inv .2) in
-    (omega arith, found .long, rows-more (f s) _ (s .args .n) (i .i) more)
+    (omega arith, found .1 .long, rows-more (f s) _ (s .args .n) (i .i) more)
 
 same-length : tie.Need-same-length Inv-loop μ-loop
 same-length c =
@@ -110,10 +99,6 @@ fill-table-spec =
     μ-loop
     leaf-order-requires
     loop-holds
-    mul-base
-    element-copy-out-base
-    mul-p
-    element-copy-out-p
     find-row-requires
     write-row-requires
     add-i

@@ -1,11 +1,11 @@
--- `least_depths::find_row` meets its contract: what the pass to the right found is not changed by the pass to the left.
+-- `least_depths::find_tops` meets its contract: what the pass to the right found is not changed by the pass to the left.
 use Prim.Native.Nat.{_+_, _-_}
 use native.Mathlib.Omega.{arith}
 use borrow.Author.Needs.{needs}
 use Rattle.leaf_orders.specs.inner.Orders.{whole}
 use Rattle.least_depths.proofs.LeastDepths.{topped}
-use Rattle.least_depths.proofs.find_row.Statement.{statement}
-use Rattle.least_depths.proofs.find_row.Tie as tie
+use Rattle.least_depths.proofs.find_tops.Statement.{statement}
+use Rattle.least_depths.proofs.find_tops.Tie as tie
 
 rightwards-requires : tie.Need-rightwards-requires
 rightwards-requires c κs = search needs
@@ -45,8 +45,8 @@ returns c =
     topped (a .n) (a .order .now) (a .depths .now) (right .last .1 .1 .1 .1 .0) (left .last .1 .1 .1 .1 .0) (a .p)
     (whole - (a .base + a .base)) (p .0) (p .1) (other .0) (right .ensures .1) (other .1) (other .2)
 
-pub find-row-spec : {M : Type 1} → statement M
-find-row-spec =
+pub find-tops-spec : {M : Type 1} → statement M
+find-tops-spec =
     tie.close
     (tie.spec
     rightwards-requires
