@@ -140,16 +140,6 @@ fn guided_checked(n: usize, scale: u32, table: &[u32], merges: &[u16], out: &mut
     rebuild_checked(n, scale, table, b"", out)
 }
 
-// How many leaves n - 1 proposals name; 0 where no tree has n leaves.
-fn proposed_leaves(n: usize) -> usize
-    ensures { λ r. ⌜ (IsLeafCount n → r ≡ 2 * (n - 1)) ⌝ }
-{
-    if !checks::leaf_count(n) {
-        return 0;
-    }
-    2 * (n - 1)
-}
-
 // The guided rebuild: the same, where each of the proposed merges names a pair that is eligible at its turn.
 pub fn rebuild_guided(n: usize, table: &[u32], merges: &[u16], out: &mut [u16]) -> Outcome
     ensures answer { λ r. ⌜ r
@@ -161,11 +151,11 @@ pub fn rebuild_guided(n: usize, table: &[u32], merges: &[u16], out: &mut [u16]) 
         (GuidedMeans n (now (table .entry)) (now (merges .entry)) (length (now (out .entry)))) r
         (now (out .entry)) (now (out .exit)) ⌝ }
 {
-    let input = checks::judge_input(Kind::Counts, n, proposed_leaves(n), merges.len());
+    let input = checks::judge_input(Kind::Counts, n, checks::numbers_due(n, 2, 1), merges.len());
     let Outcome::Done = input else {
         return input;
     };
-    let judged = table_checks::judge(n, table, checks::listing_numbers(n), out.len());
+    let judged = table_checks::judge_for_rows(n, table, out.len());
     let Outcome::Done = judged else {
         return judged;
     };

@@ -103,7 +103,7 @@ pub fn rebuild(n: usize, table: &[u32], out: &mut [u16]) -> Outcome
     ensures meaning { λ r. ⌜ Gives outcome (RebuildMeans n (now (table .entry)) (length (now (out .entry)))) r
         (now (out .entry)) (now (out .exit)) ⌝ }
 {
-    let judged = table_checks::judge(n, table, checks::listing_numbers(n), out.len());
+    let judged = table_checks::judge_for_rows(n, table, out.len());
     let Outcome::Done = judged else {
         return judged;
     };

@@ -11,15 +11,15 @@ use Rattle.refusals.specs.Refusals.{outcome-of, outcome}
 use Rattle.refusals.proofs.Answers.{go-stops, go-passes, call-passed, unless-told, unless-none}
 use Rattle.checks.specs.Sizes.{input-refusal}
 use Rattle.checks.proofs.Sizes.{input-due}
-use Rattle.table_checks.proofs.TableRefusal.{table-as-due, accepted-table}
+use Rattle.table_checks.proofs.TableRefusal.{accepted-table}
 use Rattle.rebuild_answers.specs.Operations.{guided-refusal, guided-answer}
 use Rattle.rebuild_answers.proofs.RebuildRefusals.{guided-sizes}
 use Rattle.rebuild_answers.proofs.Promises.{guided-gives}
 use Rattle.guided_rebuild.proofs.rebuild_guided.Statement.{statement}
 use Rattle.guided_rebuild.proofs.rebuild_guided.Tie as tie
 
-proposed-leaves-requires : tie.Need-proposed-leaves-requires
-proposed-leaves-requires c κs = search needs
+numbers-due-requires : tie.Need-numbers-due-requires
+numbers-due-requires c κs = search needs
 
 judge-input-requires : tie.Need-judge-input-requires
 judge-input-requires c κs = search needs
@@ -37,7 +37,7 @@ sized :
     c .judge-input .result ≡ outcome-of (input-refusal Counts (a .n) (2 * (a .n - 1)) (length (a .merges .now)))
 sized c =
     c .judge-input .ensures
-    ∙ ap outcome-of (input-due Counts _ _ _ _ (c .before .proposed-leaves .ensures))
+    ∙ ap outcome-of (input-due Counts _ _ _ _ (c .before .numbers-due .ensures))
 
 returns : tie.Need-returns
 unfolding guided-answer guided-refusal
@@ -45,11 +45,8 @@ returns c =
     let h = c .enum-told2 .given .1 in
     guided-gives _ _ _ _ outcome (unless-told _ _ _ _ _ (go-stops _ (sized (c .before .before)) _ h) h)
 
-listing-numbers-requires : tie.Need-listing-numbers-requires
-listing-numbers-requires c κs = search needs
-
-judge-requires : tie.Need-judge-requires
-judge-requires c κs = search needs
+judge-for-rows-requires : tie.Need-judge-for-rows-requires
+judge-for-rows-requires c κs = search needs
 
 enum-told-3 : tie.Need-enum-told-3
 enum-told-3 c = search needs
@@ -59,15 +56,14 @@ enum-told-4 c = search needs
 
 -- and of the table
 judged :
-    (c : tie.After-judge)
-    → let a = c .before .before .before .before .before .before .before .before .before .args in
-    c .judge .result
+    (c : tie.After-judge-for-rows)
+    → let a = c .before .before .before .before .before .before .before .before .args in
+    c .judge-for-rows .result
     ≡ outcome-of (guided-refusal (a .n) (a .table .now) (a .merges .now) (length (a .out .now)))
 unfolding guided-refusal
 judged c =
-    let told = c .before .before in
-    go-passes _ (sized (told .before .before)) _ (told .enum-told .given .1)
-    (c .judge .ensures ∙ ap outcome-of (table-as-due _ _ _ _ _ (c .before .listing-numbers .ensures)))
+    let told = c .before in
+    go-passes _ (sized (told .before .before)) _ (told .enum-told .given .1) (c .judge-for-rows .ensures)
 
 returns-2 : tie.Need-returns-2
 unfolding guided-answer
@@ -77,7 +73,7 @@ returns-2 c =
 -- nothing was refused
 passed :
     (c : tie.After-enum-told3)
-    → let a = c .before .before .before .before .before .before .before .before .before .before .before .args in
+    → let a = c .before .before .before .before .before .before .before .before .before .before .args in
     guided-refusal (a .n) (a .table .now) (a .merges .now) (length (a .out .now)) ≡ none
 passed c = call-passed _ (judged (c .before .before)) (c .enum-told3 .given .1)
 
@@ -100,13 +96,12 @@ pub rebuild-guided-spec : {M : Type 1} → statement M
 rebuild-guided-spec =
     tie.close
     (tie.spec
-    proposed-leaves-requires
+    numbers-due-requires
     judge-input-requires
     enum-told
     enum-told-2
     returns
-    listing-numbers-requires
-    judge-requires
+    judge-for-rows-requires
     enum-told-3
     enum-told-4
     returns-2

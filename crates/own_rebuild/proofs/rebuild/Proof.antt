@@ -1,25 +1,22 @@
 -- `own_rebuild::rebuild` meets its contract: what `judge` accepts is a table, and `rebuild_checked` rebuilds it.
-use mathlib.Core.Path.{_≡_, ap, _∙_}
+use mathlib.Core.Path.{_≡_}
 use mathlib.Core.Option.{none}
 use Prim.Native.Nat.{_-_, _*_}
 use native.Mathlib.Omega.{arith}
 use borrow.Author.Needs.{needs}
 use lib.ListN.{length}
-use Rattle.refusals.specs.Refusals.{outcome-of, outcome}
+use Rattle.refusals.specs.Refusals.{outcome}
 use Rattle.refusals.proofs.Answers.{call-passed, unless-told, unless-none}
 use Rattle.table_checks.specs.Operations.{table-refusal}
-use Rattle.table_checks.proofs.TableRefusal.{table-as-due, accepted-table}
+use Rattle.table_checks.proofs.TableRefusal.{accepted-table}
 use Rattle.rebuild_answers.specs.Operations.{rebuild-answer}
 use Rattle.rebuild_answers.proofs.Promises.{rebuild-gives}
 use Rattle.eligible_pairs.proofs.Lent.{no-bytes}
 use Rattle.own_rebuild.proofs.rebuild.Statement.{statement}
 use Rattle.own_rebuild.proofs.rebuild.Tie as tie
 
-listing-numbers-requires : tie.Need-listing-numbers-requires
-listing-numbers-requires c κs = search needs
-
-judge-requires : tie.Need-judge-requires
-judge-requires c κs = search needs
+judge-for-rows-requires : tie.Need-judge-for-rows-requires
+judge-for-rows-requires c κs = search needs
 
 enum-told : tie.Need-enum-told
 enum-told c = search needs
@@ -27,24 +24,18 @@ enum-told c = search needs
 enum-told-2 : tie.Need-enum-told-2
 enum-told-2 c = search needs
 
--- what was judged
-judged :
-    (c : tie.After-judge)
-    → let a = c .before .before .before .before .args in
-    c .judge .result ≡ outcome-of (table-refusal (a .n) (a .table .now) (2 * (a .n - 2)) (length (a .out .now)))
-judged c = c .judge .ensures ∙ ap outcome-of (table-as-due _ _ _ _ _ (c .before .listing-numbers .ensures))
-
 returns : tie.Need-returns
 unfolding rebuild-answer
 returns c =
-    rebuild-gives _ _ _ outcome (unless-told _ _ _ _ _ (judged (c .before .before)) (c .enum-told2 .given .1))
+    let judged = c .before .before .judge-for-rows .ensures in
+    rebuild-gives _ _ _ outcome (unless-told _ _ _ _ _ judged (c .enum-told2 .given .1))
 
 -- nothing was refused
 passed :
     (c : tie.After-enum-told)
-    → let a = c .before .before .before .before .before .before .args in
+    → let a = c .before .before .before .before .before .args in
     table-refusal (a .n) (a .table .now) (2 * (a .n - 2)) (length (a .out .now)) ≡ none
-passed c = call-passed _ (judged (c .before .before)) (c .enum-told .given .1)
+passed c = call-passed _ (c .before .before .judge-for-rows .ensures) (c .enum-told .given .1)
 
 slice-aggregate-rebuild-checked : tie.Need-slice-aggregate-rebuild-checked
 slice-aggregate-rebuild-checked c = search needs
@@ -52,7 +43,7 @@ slice-aggregate-rebuild-checked c = search needs
 rebuild-checked-requires : tie.Need-rebuild-checked-requires
 rebuild-checked-requires c κs =
     let told = c .before .before in
-    let s = told .before .before .before .before .before .before in
+    let s = told .before .before .before .before .before in
     let a = accepted-table _ _ _ _ (passed told) in
     let meant = no-bytes (s .args .n) (s .args .table .now) in
     (a .count, (omega arith, omega arith), rw meant (a .is-table), a .room-enough)
@@ -65,7 +56,7 @@ unfolding rebuild-answer
 returns-2 c =
     let put = c .before .before in
     let told = put .before .before .before in
-    let a = told .before .before .before .before .before .before .args in
+    let a = told .before .before .before .before .before .args in
     let answered = rw (no-bytes (a .n) (a .table .now)) at (put .rebuild-checked .ensures) in
     rebuild-gives _ _ _ outcome (unless-none _ _ _ _ _ (passed told) answered)
 
@@ -73,8 +64,7 @@ pub rebuild-spec : {M : Type 1} → statement M
 rebuild-spec =
     tie.close
     (tie.spec
-    listing-numbers-requires
-    judge-requires
+    judge-for-rows-requires
     enum-told
     enum-told-2
     returns
