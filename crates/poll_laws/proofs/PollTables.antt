@@ -15,17 +15,17 @@ use Rattle.trees.specs.Tables.{IsTable}
 use Rattle.trees.proofs.Tables.{rule-is-table}
 use Rattle.refusals.specs.Refusals.{accepted}
 use Rattle.refusals.proofs.Answers.{judged-none, answered-accepted}
 use Rattle.polls.specs.declared.Record.{Record}
 use Rattle.polls.specs.declared.judging.Quartet.{Quartet}
 use Rattle.polls.specs.Records.{quartets-of, record-refusal, records-refusal-from, records-refusal}
 use Rattle.polls.specs.Counts.{adds, poll-cell, poll-table}
 use Rattle.polls.specs.Operations.{poll-sizes-refusal, poll-refusal, poll-answer}
 use Rattle.polls.proofs.Counts.{adds-code, adds-le, poll-mirror}
 use Rattle.polls.proofs.Records.{passes-of, same-leaves}
 use Rattle.polls.proofs.Quartets.{quartets-count}
 use Rattle.polls.proofs.Operations.{sizes-pass}
-use Rattle.polls.proofs.FourSums.{sum4-zero, total, total-sum, rising, rising-lt}
-use Rattle.polls.proofs.OwnPolls.{code-diagonal}
+use Rattle.poll_laws.proofs.FourSums.{sum4-zero, total, total-sum, rising, rising-lt}
+use Rattle.poll_laws.proofs.OwnPolls.{code-diagonal}
 
 -- 1 for a quartet whose leaves do not rise
 unrising : Quartet → ℕ

@@ -1,0 +1,4 @@
+mod FourSums
+mod Orders
+pub mod OwnPolls
+pub mod PollTables
