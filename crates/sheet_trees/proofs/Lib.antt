@@ -1,4 +1,4 @@
-pub mod SheetTree
+mod SheetTree
 pub mod Listed
-pub mod InBytes
+mod InBytes
 pub mod Promises
