@@ -36,7 +36,8 @@ module _ {A : Type 0} (test : A → Bool) (n : ℕ) (f : ℕ → A) where
       (k : ℕ) → k ≤ n → ((i : ℕ) → i < k → test (f i) ≡ false) → find test (tab n f) ≡ find test (drop k (tab n f))
   find-past zero l h = unfold drop in refl
   find-past (suc k) l h =
-      find-past k (omega arith) (λ i li. h i (omega arith)) ∙ rw (← add-one k) (find-on k (omega arith) (h k (omega arith)))
+      find-past k (omega arith) (λ i li. h i (omega arith)) ∙ rw (← add-one k)
+      (find-on k (omega arith) (h k (omega arith)))
 
   pub first-found :
       (k : ℕ) → k < n → test (f k) ≡ true → ((i : ℕ) → i < k → test (f i) ≡ false) → find test (tab n f) ≡ some (f k)

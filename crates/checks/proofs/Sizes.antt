@@ -87,7 +87,8 @@ module _ (kind : Kind) (n due lent : ℕ) where
       judged-passes _ (count-passes kind n c) ∙ judged-alone _ ∙ length-passes due lent e
 
   -- where the leaf count is wrong, it does not matter what is due
-  pub input-due : (due′ : ℕ) → (IsCountOf kind n → due ≡ due′) → input-refusal kind n due lent ≡ input-refusal kind n due′ lent
+  pub input-due :
+      (due′ : ℕ) → (IsCountOf kind n → due ≡ due′) → input-refusal kind n due lent ≡ input-refusal kind n due′ lent
   unfolding input-refusal
   input-due due′ h = elim (bool? (right-count kind n)) [
     | inl t ↦ rw (h (is-count kind n t))
@@ -131,7 +132,8 @@ module _ (kind : Kind) (n due lent result room : ℕ) where
       stops f d r = judged-stops _ (unfold input-refusal in judged-stops _ (count-stops kind n f))
 
 -- which refusals of sizes may arise
-module _ (P : Refusal → Type 0) (kind : Kind) (n due lent result room : ℕ) (count : P Count) (input : P InputLength) where
+module _ (P : Refusal → Type 0) (kind : Kind) (n due lent result room : ℕ) (count : P Count)
+    (input : P InputLength) where
   pub input-arises : Arises P (input-refusal kind n due lent)
   unfolding input-refusal count-refusal-of length-refusal
   input-arises =

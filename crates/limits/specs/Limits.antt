@@ -15,7 +15,7 @@ IsLeafCount n = (3 ≤ n) × (n ≤ most-leaves)
 abbrev pub leaf-counts : ℕ
 leaf-counts = most-leaves + 1
 
--- an array by number has a place for each leaf and each node of a listing: they are 2n − 2, so this is two more than due
+-- an array by number has a place for each leaf and each node of a listing: two more than the 2n − 2 that are due
 abbrev pub most-nodes : ℕ
 most-nodes = 2 * most-leaves
 

@@ -22,7 +22,8 @@ use Rattle.trees.proofs.Rules.{on-leaves, listing-tree}
 use Rattle.trees.proofs.Blocks.{post-order-length, number-node}
 use Rattle.trees.proofs.Listings.{tree-listing}
 use Rattle.listings.specs.Operations.{listing-refusal, standardise-answer}
-use Rattle.listings.specs.inner.Standardising.{part, standard-first, standard-second, child-number, with-row, InOrder}
+use Rattle.listings.specs.inner.Standardising.{part, standard-first, standard-second, child-number, with-row}
+use Rattle.listings.specs.inner.Standardising.{InOrder}
 use Rattle.listings.specs.inner.Standardising.{AtNode}
 use Rattle.listings.specs.inner.Standardising.{RowFits, SubtreeRowsFit, SubtreeRowsWritten}
 use Rattle.listings.proofs.ListingRefusal.{accepted-listing, rules-left}

@@ -8,7 +8,8 @@ use Rattle.refusals.specs.Refusals.{Answer, accepted, refused, refuse, judged, 
 use Rattle.checks.specs.Sizes.{count-refusal-of, room-refusal}
 use Rattle.checks.specs.Questions.{question-refusal}
 use Rattle.sheet_rules.specs.Sheets.{name-at, name-start, name, name-byte, is-name, same, trailer}
-use Rattle.sheet_rules.specs.Operations.{right-ends, sheet-ends-refusal, right-sum, sheet-length-refusal, good-at, repeated}
+use Rattle.sheet_rules.specs.Operations.{right-ends, sheet-ends-refusal, right-sum, sheet-length-refusal, good-at}
+use Rattle.sheet_rules.specs.Operations.{repeated}
 use Rattle.sheet_rules.specs.Operations.{name-refusal, names-end-refusal}
 use Rattle.sheet_rules.specs.Operations.{names-refusal, kept-sheet-refusal}
 use Rattle.sheet_rules.proofs.Examples.{five-sheet}

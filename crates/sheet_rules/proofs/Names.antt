@@ -14,7 +14,8 @@ use lib.Seq.{length-take-le, take-add, drop-cons}
 use Rattle.base.specs.Lists.{tab, any-in, all-in}
 use Rattle.base.proofs.Bools.{is-false, and-both, and-is, eqb-same, never}
 use Rattle.base.proofs.Lists.{length-tab, getD-tab, any-append, any-tab-found}
-use Rattle.sheet_rules.specs.Sheets.{longest-name, name-at, next-name, name-start, name, between, name-byte, is-name}
+use Rattle.sheet_rules.specs.Sheets.{longest-name, name-at, next-name, name-start, name, between, name-byte}
+use Rattle.sheet_rules.specs.Sheets.{is-name}
 use Rattle.sheet_rules.specs.Sheets.{same}
 use Rattle.sheet_rules.specs.Sheets.{leaves-of, names-of}
 use Rattle.sheet_rules.specs.Operations.{good-at, repeated}

@@ -18,7 +18,8 @@ use Rattle.limits.specs.Limits.{most-leaves}
 use Rattle.pair_counts.proofs.Pairs.{P-double}
 use Rattle.byte_numbers.specs.Bytes.{number, low-first}
 use Rattle.sheet_rules.specs.Sheets.{trailer-bytes, trailer, leaves-of, offset-of, mark}
-use Rattle.sheet_rules.specs.Sheets.{longest-name, name-at, next-name, name-start, name, is-name, same, cell-bytes}
+use Rattle.sheet_rules.specs.Sheets.{longest-name, name-at, next-name, name-start, name, is-name, same}
+use Rattle.sheet_rules.specs.Sheets.{cell-bytes}
 use Rattle.sheet_rules.specs.Sheets.{cells}
 use Rattle.sheet_rules.specs.Sheets.{longest-sheet, names-of, cells-of, name-bytes, sheet-of, Writable}
 use Rattle.sheet_rules.specs.Operations.{right-ends, right-sum, good-at, repeated, sheet-refusal}

@@ -10,7 +10,8 @@ use Rattle.packed_tables.specs.Packed.{cells-before, mirrored, table-with}
 use Rattle.byte_numbers.specs.Bytes.{number}
 use Rattle.sheet_rules.specs.Sheets.{name-at, name-start, name, name-byte, is-name, same, cells, trailer, leaves-of}
 use Rattle.sheet_rules.specs.Sheets.{offset-of, cells-of}
-use Rattle.sheet_rules.specs.Operations.{right-ends, sheet-ends-refusal, right-sum, sheet-length-refusal, good-at, repeated}
+use Rattle.sheet_rules.specs.Operations.{right-ends, sheet-ends-refusal, right-sum, sheet-length-refusal, good-at}
+use Rattle.sheet_rules.specs.Operations.{repeated}
 use Rattle.sheet_rules.specs.Operations.{name-refusal, names-end-refusal}
 use Rattle.sheet_rules.specs.Operations.{names-refusal, kept-sheet-refusal, sheet-refusal}
 use Rattle.sheet_rules.proofs.Examples.{five-sheet}

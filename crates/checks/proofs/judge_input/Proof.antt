@@ -15,7 +15,8 @@ leaf-count-of-requires c κs = search needs
 
 -- the leaf count passed its test
 count : (c : tie.Else1) → IsCountOf (c .before .before .args .kind) (c .before .before .args .n)
-count c = is-count (c .before .before .args .kind) _ (sym (c .before .leaf-count-of .ensures) ∙ not-false _ (c .if1 .left))
+count c =
+    is-count (c .before .before .args .kind) _ (sym (c .before .leaf-count-of .ensures) ∙ not-false _ (c .if1 .left))
 
 returns : tie.Need-returns
 unfolding input-refusal outcome-of
@@ -31,7 +32,8 @@ returns-2 c =
 
 returns-3 : tie.Need-returns-3
 unfolding outcome-of
-returns-3 c = ap outcome-of (sym (input-passes (c .before .before .before .args .kind) _ _ _ (count (c .before)) (c .if2 .left)))
+returns-3 c =
+    ap outcome-of (sym (input-passes (c .before .before .before .args .kind) _ _ _ (count (c .before)) (c .if2 .left)))
 
 pub judge-input-spec : {M : Type 1} → statement M
 judge-input-spec = tie.close (tie.spec leaf-count-of-requires returns returns-2 returns-3)

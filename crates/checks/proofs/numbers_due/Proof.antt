@@ -23,7 +23,8 @@ returns c = λ h. absurd (count-wrong Counts _ (sym (c .before .leaf-count .ensu
 returns-2 : tie.Need-returns-2
 returns-2 c =
     λ h.
-    let e : c .before .before .before .before .args .n - c .before .before .before .before .args .but ≡ 0 = omega (arith, c .before .before .before .index-of-u8 .ensures, c .if2 .taken) in
+    let e : c .before .before .before .before .args .n - c .before .before .before .before .args .but ≡ 0 =
+    omega (arith, c .before .before .before .index-of-u8 .ensures, c .if2 .taken) in
     rw (e, mul-zero)
 
 -- the leaf count passed its test
@@ -36,7 +37,8 @@ index-of-u8-requires-2 c κs = search needs
 mul-result : tie.Need-mul-result
 mul-result c =
     let a = c .before .before .before .before .before .args in
-    let few : a .n - c .before .before .before .before .index-of-u8 .result ≤ most-leaves = omega (arith, count (c .before .before)) in
+    let few : a .n - c .before .before .before .before .index-of-u8 .result ≤ most-leaves =
+    omega (arith, count (c .before .before)) in
     let each : c .index-of-u82 .result ≤ 255 = omega (arith, c .index-of-u82 .ensures) in
     omega (arith, mul-le-mul each few)
 

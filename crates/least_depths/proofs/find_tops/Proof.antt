@@ -1,4 +1,5 @@
--- `least_depths::find_tops` meets its contract: what the pass to the right found is not changed by the pass to the left.
+-- `least_depths::find_tops` meets its contract: what the pass to the right found is not changed by the pass to the
+-- left.
 use Prim.Native.Nat.{_+_, _-_}
 use native.Mathlib.Omega.{arith}
 use borrow.Author.Needs.{needs}

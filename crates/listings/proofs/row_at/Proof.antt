@@ -48,7 +48,9 @@ returns-2 : tie.Need-returns-2
 unfolding row-at
 returns-2 c =
     let a = c .before .before .before .before .before .before .before .args in
-    rw (lt-ltb (a .k) (length (a .listing .now) / 2) (rw (c .before .before .before .before .before .row-count .ensures) at (c .before .before .before .before .if1 .left)))
+    rw (lt-ltb (a .k) (length (a .listing .now) / 2)
+    (rw (c .before .before .before .before .before .row-count .ensures) at
+    (c .before .before .before .before .if1 .left)))
     (rw (c .index-of-u162 .ensures, c .before .before .index-of-u16 .ensures))
 
 pub row-at-spec : {M : Type 1} → statement M

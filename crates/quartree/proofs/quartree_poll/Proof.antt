@@ -132,11 +132,13 @@ module _ {M : Type 1} (𝓤 : URA M) (H : Heap 𝓤) (A : Atoms 𝓤) (W : Given
       (z : ℕ) (w : Val) (zs : List ℕ) → Answers z → Holds zs → length zs ≡ length (out .now)
       → ent 𝓤
       (⋆ 𝓤 H A
-      ((‵ (flft κ q) ⊛ ‵ (flft κ′ q′) ⊛ ‵ ftrue) ∷ ‵ Own ∷ ‵ (finally u32 (out .name) zs) ∷ ‵ (u64 .own z (w ∷ [])) ∷ []))
+      ((‵ (flft κ q) ⊛ ‵ (flft κ′ q′) ⊛ ‵ ftrue) ∷ ‵ Own ∷ ‵ (finally u32 (out .name) zs) ∷ ‵
+      (u64 .own z (w ∷ [])) ∷ []))
       (Post w)
   exits z w zs e e′ l =
       qed W
-      ((‵ (flft κ q) ⊛ ‵ (flft κ′ q′) ⊛ ‵ ftrue) ∷ ‵ Own ∷ ‵ (finally u32 (out .name) zs) ∷ ‵ (u64 .own z (w ∷ [])) ∷ []) ∵
+      ((‵ (flft κ q) ⊛ ‵ (flft κ′ q′) ⊛ ‵ ftrue) ∷ ‵ Own ∷ ‵ (finally u32 (out .name) zs) ∷ ‵
+      (u64 .own z (w ∷ [])) ∷ []) ∵
       suffices ! _
       (ends-at 𝓤 H A entry.ended stayed (entry.clauses 𝓤 H A mem run) W ((κs, (q, (q′, tt)), tt, a, at), tt) w z
       (tt, (tt, (zs, tt))) (tt, (tt, (l, tt)))) $

@@ -22,7 +22,9 @@ returns c = go-stops _ (c .before .before .judge-table-sizes .ensures) _ (c .enu
 
 wrong-requires : tie.Need-wrong-requires
 wrong-requires c κs =
-    let w = sizes-right Counts _ _ _ _ _ (call-passed _ (c .before .before .judge-table-sizes .ensures) (c .enum-told .given .1)) in
+    let w =
+    sizes-right Counts _ _ _ _ _ (call-passed _ (c .before .before .judge-table-sizes .ensures)
+    (c .enum-told .given .1)) in
     record { few = w .count .1; cells = w .long }
 
 returns-2 : tie.Need-returns-2

@@ -26,7 +26,8 @@ returns c = call-refused _ (c .before .before .judge-for-cells .ensures) _ _ (c 
 fill-table-requires : tie.Need-fill-table-requires
 fill-table-requires c κs =
     let s = c .before in
-    let a = accepted-listing _ _ _ _ (call-passed _ (s .before .before .judge-for-cells .ensures) (s .enum-told .given .1)) in
+    let a =
+    accepted-listing _ _ _ _ (call-passed _ (s .before .before .judge-for-cells .ensures) (s .enum-told .given .1)) in
     (a .count, a .keeps, a .room-enough)
 
 same-length : tie.Need-same-length

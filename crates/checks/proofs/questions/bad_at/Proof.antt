@@ -31,7 +31,8 @@ index-of-u16-requires c κs = search needs
 returns : tie.Need-returns Inv-loop μ-loop
 returns c =
     let a = c .before .before .before .before .args in
-    let past : a .n ≤ getD (a .question .now) (a .p) 0 = omega (arith, c .before .index-of-u16 .ensures, c .if1 .taken) in
+    let past : a .n ≤ getD (a .question .now) (a .p) 0 =
+    omega (arith, c .before .index-of-u16 .ensures, c .if1 .taken) in
     sym (or-left _ _ (le-leb _ _ past))
 
 loop-holds : tie.Need-loop-holds Inv-loop μ-loop
@@ -48,7 +49,8 @@ returns-2 c =
     let a = c .before .before .before .before .before .before .before .before .args in
     let x = getD (a .question .now) (a .p) 0 in
     sym (or-right (leb (a .n) x) _
-    (any-before (eqb x) 0 (a .question .now) (a .p) (c .before .before .before .loop .i) (omega arith) (c .before .before .loop-test .taken)
+    (any-before (eqb x) 0 (a .question .now) (a .p) (c .before .before .before .loop .i) (omega arith)
+    (c .before .before .loop-test .taken)
     (eq-eqb _ _ (c .if2 .taken))))
 
 add-i : tie.Need-add-i Inv-loop μ-loop
@@ -64,7 +66,8 @@ returns-3 : tie.Need-returns-3 Inv-loop μ-loop
 returns-3 c =
     let a = c .before .before .before .before .before .before .args in
     let x = getD (a .question .now) (a .p) 0 in
-    let leaf : x < a .n = omega (arith, c .before .before .before .index-of-u16 .ensures, c .before .before .if1 .left) in
+    let leaf : x < a .n =
+    omega (arith, c .before .before .before .index-of-u16 .ensures, c .before .before .if1 .left) in
     sym (or-none _ _ (lt-leb _ _ leaf)
     (none-before (eqb x) 0 (a .question .now) (a .p) (omega arith) (λ k h. c .before .loop .inv .1 k (omega arith))))
 

@@ -30,12 +30,17 @@ this c =
 told :
     (c : tie.After-row-at)
     → let a = c .before .before .args in
-    (getD (a .leasts .now) (c .row-at .result .first) 0 ≡ least (part (a .n) (a .listing .now) (row-first (a .n) (a .listing .now) (a .v))))
-    × (getD (a .leasts .now) (c .row-at .result .second) 0 ≡ least (part (a .n) (a .listing .now) (row-second (a .n) (a .listing .now) (a .v))))
+    (getD (a .leasts .now) (c .row-at .result .first) 0 ≡ least
+    (part (a .n) (a .listing .now) (row-first (a .n) (a .listing .now) (a .v))))
+    × (getD (a .leasts .now) (c .row-at .result .second) 0 ≡ least
+    (part (a .n) (a .listing .now) (row-second (a .n) (a .listing .now) (a .v))))
 told c =
     let p = c .before .before .pre in
-    let r = this c in
-    (p .1 .is _ (omega (arith, r .first-before, p .0)) ∙ rw (r .first-is), p .1 .is _ (omega (arith, r .second-before, p .0)) ∙ rw (r .second-is))
+    let r = this c in (
+      p .1 .is _ (omega (arith, r .first-before, p .0)) ∙ rw (r .first-is),
+      p .1 .is _
+          (omega (arith, r .second-before, p .0)) ∙ rw (r .second-is),
+    )
 
 mul-if1 : tie.Need-mul-if1
 mul-if1 c = omega (arith, this c .first-before, c .before .before .pre .0)

@@ -1,4 +1,5 @@
--- `listings::standard::order_rows` meets its contract. The loop's invariant: the least leaves under the numbers before v
+-- `listings::standard::order_rows` meets its contract. The loop's invariant: the least leaves under the numbers before
+-- v
 -- are known, and the children of the nodes before v stand in order.
 use mathlib.Core.Path.{_≡_, sym, _∙_}
 use Prim.Native.Nat.{_≤_, _*_, _-_}
@@ -66,10 +67,12 @@ mul-sorted : tie.Need-mul-sorted Inv-loop μ-loop
 mul-sorted c = search needs
 
 element-write-sorted : tie.Need-element-write-sorted Inv-loop μ-loop
-element-write-sorted c = omega (arith, c .before .before .before .before .loop .inv .3 .long, at-node (c .before .before .before))
+element-write-sorted c =
+    omega (arith, c .before .before .before .before .loop .inv .3 .long, at-node (c .before .before .before))
 
 cast-sorted-2 : tie.Need-cast-sorted-2 Inv-loop μ-loop
-cast-sorted-2 c = omega (arith, c .before .before .in-order .ensures .1, second-below (at-node (c .before .before .before .before)))
+cast-sorted-2 c =
+    omega (arith, c .before .before .in-order .ensures .1, second-below (at-node (c .before .before .before .before)))
 
 add-sorted : tie.Need-add-sorted Inv-loop μ-loop
 add-sorted c = search needs
@@ -78,7 +81,13 @@ mul-sorted-2 : tie.Need-mul-sorted-2 Inv-loop μ-loop
 mul-sorted-2 c = search needs
 
 element-write-sorted-2 : tie.Need-element-write-sorted-2 Inv-loop μ-loop
-element-write-sorted-2 c = omega (arith, c .before .before .before .before .before .loop .inv .3 .long, at-node (c .before .before .before .before))
+element-write-sorted-2 c =
+    omega (
+      arith,
+      c .before .before .before .before .before .loop .inv .3 .long,
+      at-node
+          (c .before .before .before .before),
+    )
 
 add-v : tie.Need-add-v Inv-loop μ-loop
 add-v c = search needs
