@@ -34,6 +34,7 @@ use Rattle.state_arrays.specs.inner.Fits.{SubtreesFit, Given, TwoLabels}
 use Rattle.state_arrays.specs.inner.Merged.{MergeReady, Merged}
 use Rattle.state_arrays.specs.inner.StateArrays.{HoldsState}
 use Rattle.guided_rebuild.specs.inner.Proposals.{HoldsReached, HoldsSomeReached, Labels, Proposed, Stopped}
+use Rattle.guided_rebuild.specs.inner.Proposals.{StepsAccepted}
 use Rattle.state_arrays.proofs.Fits.{two-turned}
 use Rattle.state_arrays.proofs.StateArrays.{fits-eligible, eligible-fits, fair, two-merges, holds-step}
 
@@ -175,14 +176,7 @@ module _ {n s : ℕ} {table p label m sizes : List ℕ} (g : Given n s table p)
         rw (step-move w a b i j (A .inside) (B .inside)) at (q .merged e S u);
   }
 
--- The proposals one after the other: after k of them the arrays stand for a state, from which the rest goes on as the
--- whole list does from the start.
-pub record StepsAccepted (n s : ℕ) (table merges label m sizes : List ℕ) (k : ℕ) : Type 0 where
-  pub long : length merges ≡ 2 * (n - 1)
-  pub state : State
-  pub stands : HoldsReached n s table label m sizes state
-  pub rest : stop-at k n s table state (drop k (proposals merges)) ≡ stop-at 0 n s table start (proposals merges)
-
+-- the k-th proposal
 proposal :
     (n : ℕ) (l : List ℕ) → length l ≡ 2 * (n - 1) → (k : ℕ) → k < n - 1
     → drop k (proposals l) ≡ (getD l (2 * k) 0, getD l (2 * k + 1) 0) ∷ drop (suc k) (proposals l)

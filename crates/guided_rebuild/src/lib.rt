@@ -140,7 +140,8 @@ fn guided_checked(n: usize, scale: u32, table: &[u32], merges: &[u16], out: &mut
     rebuild_checked(n, scale, table, b"", out)
 }
 
-// The guided rebuild: the same, where each of the proposed merges names a pair that is eligible at its turn.
+// The guided rebuild: writes the standard listing of the tree that has the table at the front of `out`, where each of
+// the proposed merges names a pair that is eligible at its turn.
 pub fn rebuild_guided(n: usize, table: &[u32], merges: &[u16], out: &mut [u16]) -> Outcome
     ensures answer { λ r. ⌜ r
         ≡ outcome (guided-answer n (now (table .entry)) (now (merges .entry)) (length (now (out .entry)))) ⌝ }

@@ -1,3 +1,3 @@
-pub mod Merged
+mod Merged
 pub mod Fits
 pub mod StateArrays

@@ -7,7 +7,8 @@ use borrow.Author.Needs.{needs}
 use borrow.Author.Tests.{not-true, not-false}
 use Rattle.merging.specs.Merging.{start}
 use Rattle.state_arrays.specs.inner.Fits.{scale-of, Given}
-use Rattle.guided_rebuild.proofs.Proposals.{StepsAccepted, steps-end, step-refused, step-accepted}
+use Rattle.guided_rebuild.specs.inner.Proposals.{StepsAccepted}
+use Rattle.guided_rebuild.proofs.Proposals.{steps-end, step-refused, step-accepted}
 use Rattle.guided_rebuild.proofs.accepted_steps.Statement.{statement}
 use Rattle.guided_rebuild.proofs.accepted_steps.Tie as tie
 

@@ -3,8 +3,8 @@ use mathlib.Core.Path.{_≡_}
 use mathlib.Core.Bool.{Bool, true}
 use mathlib.Core.List.{List}
 use mathlib.Core.Option.{none, some}
-use Prim.Native.Nat.{ℕ, _-_, _≤_, _<_}
-use lib.ListN.{getD}
+use Prim.Native.Nat.{ℕ, _-_, _*_, _≤_, _<_}
+use lib.ListN.{length, getD, drop}
 use Rattle.trees.specs.Tables.{cell}
 use Rattle.merging.specs.Merging.{State, start, eligible, step}
 use Rattle.merging.specs.Rebuilds.{stop-at}
@@ -43,3 +43,10 @@ pub record Proposed (n s : ℕ) (table label m sizes label′ m′ sizes′ : Li
 pub record Stopped (n s : ℕ) (table merges : List ℕ) (k : ℕ) : Type 0 where
   pub refused : k < n - 1 → stop-at 0 n s table start (proposals merges) ≡ some k
   pub accepted : n - 1 ≤ k → stop-at 0 n s table start (proposals merges) ≡ none
+
+-- after k proposals the arrays hold a state, from which the rest goes on as the whole list does from the start
+pub record StepsAccepted (n s : ℕ) (table merges label m sizes : List ℕ) (k : ℕ) : Type 0 where
+  pub long : length merges ≡ 2 * (n - 1)
+  pub state : State
+  pub stands : HoldsReached n s table label m sizes state
+  pub rest : stop-at k n s table state (drop k (proposals merges)) ≡ stop-at 0 n s table start (proposals merges)
