@@ -47,7 +47,8 @@ low-part S k a h l = rw long at (low-number (take k (drop a S)) bytes)
 
 -- the first byte, and then the others
 number-more :
-    (S : List ℕ) (k a : ℕ) → number (take (suc k) (drop a S)) ≡ getD S a 0 + 256 * number (take k (drop (suc a) S))
+    (S : List ℕ) (k a : ℕ)
+    → number (take (suc k) (drop a S)) ≡ getD S a 0 + 256 * number (take k (drop (suc a) S))
 unfolding number
 number-more [] zero zero = omega arith
 number-more [] (suc k) zero = omega arith

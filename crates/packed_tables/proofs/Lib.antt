@@ -1,3 +1,3 @@
-pub mod CellPlaces
+mod CellPlaces
 pub mod PackedIsTable
 pub mod Sizes

@@ -121,6 +121,9 @@ module _ {M : Type 1} (𝓤 : URA M) (H : Heap 𝓤) (A : Atoms 𝓤) (W : Given
   abbrev Own : Fml
   Own = ShrSlice (named 0) κ T.the-row .own rs (v ∷ [])
 
+  abbrev Ends : List ℕ → Fml
+  Ends zs = finally u32 (out .name) zs
+
   -- what the contract says of the reply and of the buffer
   abbrev Answers : ℕ → Type 0
   Answers z = z ≡ reply (poll-answer n (rs .now) (length (out .now)))
@@ -132,13 +135,11 @@ module _ {M : Type 1} (𝓤 : URA M) (H : Heap 𝓤) (A : Atoms 𝓤) (W : Given
       (z : ℕ) (w : Val) (zs : List ℕ) → Answers z → Holds zs → length zs ≡ length (out .now)
       → ent 𝓤
       (⋆ 𝓤 H A
-      ((‵ (flft κ q) ⊛ ‵ (flft κ′ q′) ⊛ ‵ ftrue) ∷ ‵ Own ∷ ‵ (finally u32 (out .name) zs) ∷ ‵
-      (u64 .own z (w ∷ [])) ∷ []))
+      ((‵ (flft κ q) ⊛ ‵ (flft κ′ q′) ⊛ ‵ ftrue) ∷ ‵ Own ∷ ‵ (Ends zs) ∷ ‵ (u64 .own z (w ∷ [])) ∷ []))
       (Post w)
   exits z w zs e e′ l =
       qed W
-      ((‵ (flft κ q) ⊛ ‵ (flft κ′ q′) ⊛ ‵ ftrue) ∷ ‵ Own ∷ ‵ (finally u32 (out .name) zs) ∷ ‵
-      (u64 .own z (w ∷ [])) ∷ []) ∵
+      ((‵ (flft κ q) ⊛ ‵ (flft κ′ q′) ⊛ ‵ ftrue) ∷ ‵ Own ∷ ‵ (Ends zs) ∷ ‵ (u64 .own z (w ∷ [])) ∷ []) ∵
       suffices ! _
       (ends-at 𝓤 H A entry.ended stayed (entry.clauses 𝓤 H A mem run) W ((κs, (q, (q′, tt)), tt, a, at), tt) w z
       (tt, (tt, (zs, tt))) (tt, (tt, (l, tt)))) $

@@ -37,9 +37,8 @@ unfolding sheet-refusal
 accepted c =
     let judge = c .before .before in
     let figures = judge .before .before .before .pre in
-    rw (figures .0, figures .1)
-    (accepted-sheet _ _ _ _ _ (call-passed _ (rw (figures .0) at (judge .judge-sheet .ensures))
-    (c .enum-told .given .1)))
+    let passed = call-passed _ (rw (figures .0) at (judge .judge-sheet .ensures)) (c .enum-told .given .1) in
+    rw (figures .0, figures .1) (accepted-sheet _ _ _ _ _ passed)
 
 sub-end : tie.Need-sub-end
 sub-end c = omega (arith, accepted c .count)
