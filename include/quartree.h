@@ -84,8 +84,9 @@
 /* ---- The reply ------------------------------------------------------------------------------------------------------
 
    A call replies with a number and a figure: the refusal's number, or 0 if the call is accepted, in bits 0 to 7, and
-   the figure from bit 8 on. A refusal's figure is given below; it is 0 where nothing comes with the number. The figure
-   of an accepted call is 0 unless its promise names another. quartree_rebuild_sheet alone returns a bare number. */
+   the figure from bit 8 on: 56 bits, which hold every figure below whole. A refusal's figure is given below; it is 0
+   where nothing comes with the number. The figure of an accepted call is 0 unless its promise names another.
+   quartree_rebuild_sheet alone returns a bare number. */
 
 #define QUARTREE_NUMBER(reply) ((unsigned)((reply) & 255))
 #define QUARTREE_FIGURE(reply) ((uint64_t)(reply) >> 8)

@@ -16,6 +16,7 @@ use lib.Seq.{getD-set-same, getD-set-other}
 use Rattle.base.specs.Numbers.{indicator, sum-below}
 use Rattle.base.proofs.Bools.{bool?}
 use Rattle.base.proofs.Lists.{getD-tab}
+use Rattle.base.proofs.Sums.{zero-sum, sum-only}
 use Rattle.limits.specs.Limits.{most-leaves, set-bytes}
 use Rattle.trees.specs.Trees.{leaf, LeafSet, leaves}
 use Rattle.trees.specs.Splits.{byte-of, bytes-of}
@@ -67,36 +68,19 @@ union-bytes e f r h each =
     known-whole (byte-of (λ k. e k || f k)) 0 r set-bytes h (λ i l.
     each i l ∙ rw (getD-tab set-bytes (byte-of e) i 0 l, getD-tab set-bytes (byte-of f) i 0 l) (or-byte e f i))
 
--- a sum of which no term, or one, counts
-sum-none :
-    (m : ℕ) (f : ℕ → Bool) (h : ℕ → ℕ) → ((t : ℕ) → t < m → f t ≡ false) → sum-below m (λ t. indicator (f t) (h t)) ≡ 0
-unfolding sum-below
-sum-none zero f h z = refl
-sum-none (suc m) f h z = rw (z m (omega arith), sum-none m f h (λ t l. z t (omega arith)))
-
-sum-one :
-    (m i : ℕ) (f : ℕ → Bool) (h : ℕ → ℕ) → i < m → f i ≡ true → ((t : ℕ) → t ≢ i → f t ≡ false)
-    → sum-below m (λ t. indicator (f t) (h t)) ≡ h i
-unfolding sum-below
-sum-one zero i f h l y z = absurd (omega arith)
-sum-one (suc m) i f h l y z = elim (ℕ-discrete i m) [
-  | yes e ↦
-      let before = sum-none m f h (λ t lt. z t (omega arith)) in
-      rw (before, ← e, y) (omega arith)
-  | no d ↦ rw (z m (λ e. d (sym e))) (rw (sum-one m i f h (omega arith) y z) (omega arith))
-]
-
 -- the byte of leaf k, and the other bytes of its set
 own-byte : (k : ℕ) → byte-of (leaves (leaf k)) (k / 8) ≡ 2 ^ (k % 8)
 unfolding byte-of leaves
 own-byte k =
-    sum-one 8 (k % 8) (λ t. eqb (8 * (k / 8) + t) k) (λ t. 2 ^ t) (omega arith)
-    (eq-eqb (8 * (k / 8) + k % 8) k (omega arith)) (λ t d. ne-eqb (8 * (k / 8) + t) k (λ e. d (omega arith)))
+    sum-only 8 (k % 8) (λ t. indicator (eqb (8 * (k / 8) + t) k) (2 ^ t)) (omega arith)
+    (λ t d. rw (ne-eqb (8 * (k / 8) + t) k (λ e. d (omega arith))))
+    ∙ rw (eq-eqb (8 * (k / 8) + k % 8) k (omega arith))
 
 other-byte : (k i : ℕ) → i ≢ k / 8 → byte-of (leaves (leaf k)) i ≡ 0
 unfolding byte-of leaves
 other-byte k i d =
-    sum-none 8 (λ t. eqb (8 * i + t) k) (λ t. 2 ^ t) (λ t l. ne-eqb (8 * i + t) k (λ e. d (omega arith)))
+    zero-sum 8 (λ t. indicator (eqb (8 * i + t) k) (2 ^ t))
+    (λ t l. rw (ne-eqb (8 * i + t) k (λ e. d (omega arith))))
 
 -- the set of one leaf, from the empty set
 pub single-bytes :
