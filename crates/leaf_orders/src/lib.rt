@@ -6,7 +6,8 @@ use limits::MOST_NODES;
 use listings::row_at;
 ghost use mathlib.Core.Path.{_≡_};
 ghost use Prim.Native.Nat.{_+_, _*_, _-_, _<_, _≤_};
-ghost use Rattle.limits.specs.Limits.{most-leaves, IsLeafCount};
+ghost use lib.ListN.{length, replicate};
+ghost use Rattle.limits.specs.Limits.{most-leaves, most-nodes, IsLeafCount};
 ghost use Rattle.pair_counts.specs.Pairs.{P};
 ghost use Rattle.trees.specs.Trees.{size};
 ghost use Rattle.trees.specs.Listings.{KeepsRules, subtree-at, tree-of};
@@ -14,22 +15,6 @@ ghost use Rattle.leaf_orders.specs.inner.Orders.{Sized, Prepared, Childr
 
 // More than what branches off above any two leaves: depths are counted down from it.
 pub const WHOLE: u32 = (2 * MOST_LEAVES * MOST_LEAVES) as u32;
-
-// The order of the leaves: the place of each number and what branches off above it, and of these a leaf's are used; the
-// leaf at each place, and the depth before it.
-pub struct Plan {
-    pub places: [usize; MOST_NODES],
-    pub aboves: [u32; MOST_NODES],
-    pub order: [usize; MOST_LEAVES],
-    pub depths: [u32; MOST_LEAVES],
-}
-
-// Of each number its place, what branches off above it, and the depth before its first leaf.
-struct Numbers {
-    places: [usize; MOST_NODES],
-    aboves: [u32; MOST_NODES],
-    befores: [u32; MOST_NODES],
-}
 
 // The children of a number: the first, how many leaves it has, and what branches off above it; the second, what
 // branches off above it, and the depth before its first leaf.
@@ -50,12 +35,11 @@ fn pairs(k: usize) -> u32
     (k * k - k) as u32 / 2
 }
 
-// The number of leaves under each number of a listing.
-fn count_leaves(n: usize, listing: &[u16]) -> [usize; MOST_NODES]
-    requires { ⌜ IsLeafCount n × KeepsRules n (now listing) ⌝ }
-    ensures { λ r. ⌜ Sized n (now (listing .entry)) r ⌝ }
+// The number of leaves under each number of a listing, where a leaf's is there already.
+fn count_leaves(n: usize, listing: &[u16], sizes: &mut [usize; MOST_NODES])
+    requires { ⌜ IsLeafCount n × KeepsRules n (now listing) × (now sizes ≡ replicate most-nodes 1) ⌝ }
+    ensures { λ _. ⌜ Sized n (now (listing .entry)) (now (sizes .exit)) ⌝ }
 {
-    let mut sizes = [1usize; MOST_NODES];
     let mut k = 0;
     while k < n - 2 {
         let r = row_at(listing, k);
@@ -64,7 +48,6 @@ fn count_leaves(n: usize, listing: &[u16]) -> [usize; MOST_NODES]
         sizes[n + k] = sizes[a] + sizes[b];
         k += 1;
     }
-    sizes
 }
 
 // The children of number c, above which `above` pairs branch off.
@@ -101,13 +84,19 @@ fn children_of(
 
 // Every number takes its place, from the last row down: the children of a number take theirs side by side, from where
 // its own is. Leaf 0 stands above all others, at place 0.
-fn place_numbers(n: usize, listing: &[u16], sizes: &[usize; MOST_NODES]) -> Numbers
-    requires { ⌜ Prepared n (now listing) (now sizes) ⌝ }
-    ensures { λ r. ⌜ NumbersPlaced n (now (listing .entry)) (r .places) (r .aboves) (r .befores) n ⌝ }
+fn place_numbers(
+    n: usize,
+    listing: &[u16],
+    sizes: &[usize; MOST_NODES],
+    places: &mut [usize; MOST_NODES],
+    aboves: &mut [u32; MOST_NODES],
+    befores: &mut [u32; MOST_NODES],
+)
+    requires { ⌜ Prepared n (now listing) (now sizes) × (now places ≡ replicate most-nodes 0)
+        × (now aboves ≡ replicate most-nodes 0) × (now befores ≡ replicate most-nodes 0) ⌝ }
+    ensures { λ _. ⌜ NumbersPlaced n (now (listing .entry)) (now (places .exit)) (now (aboves .exit))
+        (now (befores .exit)) n ⌝ }
 {
-    let mut places = [0usize; MOST_NODES];
-    let mut aboves = [0u32; MOST_NODES];
-    let mut befores = [0u32; MOST_NODES];
     let others = pairs(n - 1);
     places[2 * n - 3] = 1;
     aboves[0] = others;
@@ -126,36 +115,34 @@ fn place_numbers(n: usize, listing: &[u16], sizes: &[usize; MOST_NODES]) -> Numb
         befores[a] = befores[c];
         befores[b] = r.depth;
     }
-    Numbers {
-        places,
-        aboves,
-        befores,
-    }
 }
 
-// The order of the leaves of the tree that a listing stands for, and the depths between them: for the crates above.
-pub fn leaf_order(n: usize, listing: &[u16]) -> Plan
-    requires { ⌜ IsLeafCount n × KeepsRules n (now listing) ⌝ }
-    ensures { λ r. ⌜ IsPlan n (tree-of n (now (listing .entry))) (r .places) (r .aboves) (r .order) (r .depths) ⌝ }
+// The order of the leaves of the tree that a listing stands for, from arrays that hold zeros: the place of each number
+// and what branches off above it, of which a leaf's are used; the leaf at each place, and the depth before it. For the
+// crates above.
+pub fn leaf_order(
+    n: usize,
+    listing: &[u16],
+    places: &mut [usize; MOST_NODES],
+    aboves: &mut [u32; MOST_NODES],
+    order: &mut [usize; MOST_LEAVES],
+    depths: &mut [u32; MOST_LEAVES],
+)
+    requires { ⌜ IsLeafCount n × KeepsRules n (now listing) × (now places ≡ replicate most-nodes 0)
+        × (now aboves ≡ replicate most-nodes 0) × (length (now order) ≡ most-leaves)
+        × (length (now depths) ≡ most-leaves) ⌝ }
+    ensures { λ _. ⌜ IsPlan n (tree-of n (now (listing .entry))) (now (places .exit)) (now (aboves .exit))
+        (now (order .exit)) (now (depths .exit)) ⌝ }
 {
-    let sizes = count_leaves(n, listing);
-    let numbers = place_numbers(n, listing, &sizes);
-    let places = numbers.places;
-    let aboves = numbers.aboves;
-    let befores = numbers.befores;
-    let mut order = [0usize; MOST_LEAVES];
-    let mut depths = [0u32; MOST_LEAVES];
+    let mut sizes = [1usize; MOST_NODES];
+    let mut befores = [0u32; MOST_NODES];
+    count_leaves(n, listing, &mut sizes);
+    place_numbers(n, listing, &sizes, places, aboves, &mut befores);
     let mut j = 0;
     while j < n {
         let p = places[j];
         order[p] = j;
         depths[p] = befores[j];
         j += 1;
-    }
-    Plan {
-        places,
-        aboves,
-        order,
-        depths,
     }
 }

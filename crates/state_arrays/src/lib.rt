@@ -5,8 +5,8 @@ use limits::MOST_LEAVES;
 ghost use mathlib.Core.Path.{_≡_};
 ghost use Prim.Native.Nat.{_≤_};
 ghost use lib.ListN.{length};
-ghost use Rattle.limits.specs.Limits.{most-leaves};
-ghost use Rattle.state_arrays.specs.inner.Fits.{most-scale, ScaledCounts, largest-sum, SmallSums};
+ghost use Rattle.limits.specs.Limits.{most-leaves, most-scale};
+ghost use Rattle.state_arrays.specs.inner.Fits.{ScaledCounts, largest-sum, SmallSums};
 ghost use Rattle.state_arrays.specs.inner.Merged.{relabelled, growth, Gathered, MergeReady, Merged};
 
 // The pair counts of up to n leaves at this scale: entry k is scale * P(k).

@@ -80,12 +80,23 @@ pub(crate) fn fill_table(n: usize, listing: &[u16], out: &mut [u32])
     ensures { λ _. ⌜ now (out .exit)
         ≡ table-of n (tree-of n (now (listing .entry))) ++ drop (n * n) (now (out .entry)) ⌝ }
 {
-    let p = leaf_order(n, listing);
+    let mut places = [0usize; MOST_NODES];
+    let mut aboves = [0u32; MOST_NODES];
+    let mut order = [0usize; MOST_LEAVES];
+    let mut depths = [0u32; MOST_LEAVES];
     let mut tops = [0u32; MOST_LEAVES];
+    leaf_order(
+        n,
+        listing,
+        &mut places,
+        &mut aboves,
+        &mut order,
+        &mut depths,
+    );
     let mut i: usize = 0;
     while i < n {
-        let base = find_row(n, &p.places, &p.aboves, &p.order, &p.depths, i, &mut tops);
-        write_row(n, i, base, &p.aboves, &tops, out);
+        let base = find_row(n, &places, &aboves, &order, &depths, i, &mut tops);
+        write_row(n, i, base, &aboves, &tops, out);
         i += 1;
     }
 }
@@ -97,12 +108,23 @@ pub(crate) fn fill_gap(n: usize, scale: u32, cells: &[u32], listing: &[u16], out
     ensures { λ _. ⌜ now (out .exit)
         ≡ gaps n scale (now (cells .entry)) (tree-of n (now (listing .entry))) ++ drop (n * n) (now (out .entry)) ⌝ }
 {
-    let p = leaf_order(n, listing);
+    let mut places = [0usize; MOST_NODES];
+    let mut aboves = [0u32; MOST_NODES];
+    let mut order = [0usize; MOST_LEAVES];
+    let mut depths = [0u32; MOST_LEAVES];
     let mut tops = [0u32; MOST_LEAVES];
+    leaf_order(
+        n,
+        listing,
+        &mut places,
+        &mut aboves,
+        &mut order,
+        &mut depths,
+    );
     let mut i: usize = 0;
     while i < n {
-        let base = find_row(n, &p.places, &p.aboves, &p.order, &p.depths, i, &mut tops);
-        subtract_row(n, i, scale, base, &p.aboves, &tops, cells, out);
+        let base = find_row(n, &places, &aboves, &order, &depths, i, &mut tops);
+        subtract_row(n, i, scale, base, &aboves, &tops, cells, out);
         i += 1;
     }
 }

@@ -32,9 +32,10 @@ loop-holds : tie.Need-loop-holds Inv-loop μ-loop
 loop-holds c =
     let s = c .before in (
       omega arith,
-      refl,
-      seen-leaves size 0 (s .args .n) (s .args .listing .now) (replicate most-nodes 1) (λ i li.
-          getD-replicate {A = ℕ} most-nodes i 1 0 (omega (arith, s .pre .0 .1)) ∙ (unfold size in refl)),
+      rw (s .pre .2),
+      rw (s .pre .2)
+          (seen-leaves size 0 (s .args .n) (s .args .listing .now) (replicate most-nodes 1) (λ i li.
+          getD-replicate {A = ℕ} most-nodes i 1 0 (omega (arith, s .pre .0 .1)) ∙ (unfold size in refl))),
     )
 
 sub-loop : tie.Need-sub-loop Inv-loop μ-loop
@@ -46,20 +47,20 @@ row-at-requires c κs = search needs
 mul-sizes : tie.Need-mul-sizes Inv-loop μ-loop
 mul-sizes c = omega (arith, this c .first-before, c .before .before .before .before .pre .0 .1)
 
-array-read-sizes : tie.Need-array-read-sizes Inv-loop μ-loop
-array-read-sizes c = omega (arith, this c .first-before, c .before .before .before .before .pre .0 .1)
+element-copy-out-sizes : tie.Need-element-copy-out-sizes Inv-loop μ-loop
+element-copy-out-sizes c = omega (arith, this c .first-before, c .before .before .before .before .pre .0 .1)
 
 mul-sizes-2 : tie.Need-mul-sizes-2 Inv-loop μ-loop
-mul-sizes-2 c = omega (arith, this c .second-before, c .before .before .before .before .pre .0 .1)
+mul-sizes-2 c = omega (arith, this (c .before) .second-before, c .before .before .before .before .before .pre .0 .1)
 
-array-read-sizes-2 : tie.Need-array-read-sizes-2 Inv-loop μ-loop
-array-read-sizes-2 c = omega (arith, this c .second-before, c .before .before .before .before .pre .0 .1)
+element-copy-out-sizes-2 : tie.Need-element-copy-out-sizes-2 Inv-loop μ-loop
+element-copy-out-sizes-2 c = omega (arith, this (c .before) .second-before, c .before .before .before .before .before .pre .0 .1)
 
 add-sizes : tie.Need-add-sizes Inv-loop μ-loop
 add-sizes c =
-    let i = c .before .before .loop in
-    let s = c .before .before .before .before in
-    rw (sizes-add (this c) (i .sizes) (i .inv .2))
+    let i = c .before .before .before .before .loop in
+    let s = c .before .before .before .before .before .before in
+    rw (sizes-add (this (c .before .before)) (i .sizes) (i .inv .2))
     (omega (
       arith,
       size-le (s .args .n) (s .args .listing .now) (s .args .n + i .k) (s .pre .0) (s .pre .1) (omega arith),
@@ -72,8 +73,8 @@ add-sizes-2 c = search needs
 mul-sizes-3 : tie.Need-mul-sizes-3 Inv-loop μ-loop
 mul-sizes-3 c = search needs
 
-array-write-sizes : tie.Need-array-write-sizes Inv-loop μ-loop
-array-write-sizes c = search needs
+element-write-sizes : tie.Need-element-write-sizes Inv-loop μ-loop
+element-write-sizes c = search needs
 
 add-k : tie.Need-add-k Inv-loop μ-loop
 add-k c = search needs
@@ -83,12 +84,12 @@ loop-less c = search needs
 
 loop-again : tie.Need-loop-again Inv-loop μ-loop
 loop-again c =
-    let i = c .before .before .loop in
-    let a = c .before .before .before .before .args in (
+    let i = c .before .before .before .before .loop in
+    let a = c .before .before .before .before .before .before .args in (
       omega arith,
       simp length-set (i .inv .1),
       seen-node size 0 (a .n) (a .listing .now) (i .sizes) (i .k) _ (omega arith)
-          (sizes-add (this c) (i .sizes) (i .inv .2)) (i .inv .2),
+          (sizes-add (this (c .before .before)) (i .sizes) (i .inv .2)) (i .inv .2),
     )
 
 returns : tie.Need-returns Inv-loop μ-loop
@@ -104,13 +105,13 @@ count-leaves-spec =
     sub-loop
     row-at-requires
     mul-sizes
-    array-read-sizes
+    element-copy-out-sizes
     mul-sizes-2
-    array-read-sizes-2
+    element-copy-out-sizes-2
     add-sizes
     add-sizes-2
     mul-sizes-3
-    array-write-sizes
+    element-write-sizes
     add-k
     loop-less
     loop-again

@@ -11,36 +11,35 @@ use Rattle.leaf_orders.proofs.leaf_order.Statement.{statement}
 use Rattle.leaf_orders.proofs.leaf_order.Tie as tie
 
 abbrev Inv-loop : tie.InvT-loop
-Inv-loop n listing places aboves befores order₀ depths₀ j₀ order depths j =
+Inv-loop n listing places aboves order₀ depths₀ befores j₀ order depths j =
     (j ≤ n) × (length order ≡ most-leaves) × (length depths ≡ most-leaves) × Placed places befores order depths j
 
 abbrev μ-loop : tie.MeasureT-loop
-μ-loop n listing places aboves befores order₀ depths₀ j₀ order depths j = n - j
+μ-loop n listing places aboves order₀ depths₀ befores j₀ order depths j = n - j
 
 -- the leaves under each number are counted
 prepared :
     (c : tie.After-place-numbers Inv-loop μ-loop)
-    → (let a = c .before .before .before .before .args in
-    Prepared (a .n) (a .listing .now) (c .before .before .count-leaves .result))
+    → (let a = c .before .before .before .before .before .before .before .before .args in
+    Prepared (a .n) (a .listing .now) (c .before .before .before .before .before .count-leaves .last .1 .1 .0))
 prepared c =
-    let p = c .before .before .before .before .pre in
-    record { leaf-count = p .0; listing = p .1; sized = c .before .before .count-leaves .ensures }
+    let p = c .before .before .before .before .before .before .before .before .pre in
+    record { leaf-count = p .0; listing = p .1; sized = c .before .before .before .before .before .count-leaves .ensures }
 
 -- each leaf has a place of its own
 own :
     (c : tie.After-place-numbers Inv-loop μ-loop)
-    → OwnPlaces (c .before .before .before .before .args .n) (c .place-numbers .result .places)
+    → OwnPlaces (c .before .before .before .before .before .before .before .before .args .n) (c .place-numbers .last .1 .1 .1 .0)
 own c =
-    let p = c .before .before .before .before .pre in
+    let p = c .before .before .before .before .before .before .before .before .pre in
     own-places _ _ (p .0) (p .1) (prepared c) (c .place-numbers .ensures)
 
 -- the next leaf's is among the first
 small :
     (c : tie.In-loop Inv-loop μ-loop)
-    → (let b = c .before .before .before .before .before in
-    at (b .place-numbers .result .places) (c .before .loop .j) < most-leaves)
+    → at (c .before .before .place-numbers .last .1 .1 .1 .0) (c .before .loop .j) < most-leaves
 small c =
-    let b = c .before .before .before .before .before in
+    let b = c .before .before in
     omega (arith, own b .inside (c .before .loop .j) (omega arith), own b .few)
 
 count-leaves-requires : tie.Need-count-leaves-requires Inv-loop μ-loop
@@ -48,23 +47,25 @@ count-leaves-requires c κs = search needs
 
 place-numbers-requires : tie.Need-place-numbers-requires Inv-loop μ-loop
 place-numbers-requires c κs =
-    let p = c .before .before .before .pre in
-    record { leaf-count = p .0; listing = p .1; sized = c .before .count-leaves .ensures }
+    let p = c .before .before .before .before .before .before .before .pre in
+    (record { leaf-count = p .0; listing = p .1; sized = c .before .before .before .before .count-leaves .ensures }, p .2, p .3, refl)
 
 loop-holds : tie.Need-loop-holds Inv-loop μ-loop
-loop-holds c = (omega arith, refl, refl, λ k h. absurd (omega arith))
+loop-holds c =
+    let p = c .before .before .before .before .before .before .before .before .pre in
+    (omega arith, p .4, p .5, λ k h. absurd (omega arith))
 
 mul-p : tie.Need-mul-p Inv-loop μ-loop
 mul-p c = search needs
 
-array-read-p : tie.Need-array-read-p Inv-loop μ-loop
-array-read-p c = search needs
+element-copy-out-p : tie.Need-element-copy-out-p Inv-loop μ-loop
+element-copy-out-p c = search needs
 
 mul-order : tie.Need-mul-order Inv-loop μ-loop
-mul-order c = omega (arith, small c)
+mul-order c = omega (arith, small (c .before))
 
-array-write-order : tie.Need-array-write-order Inv-loop μ-loop
-array-write-order c = omega (arith, small c)
+element-write-order : tie.Need-element-write-order Inv-loop μ-loop
+element-write-order c = omega (arith, small (c .before))
 
 mul-depths : tie.Need-mul-depths Inv-loop μ-loop
 mul-depths c = search needs
@@ -73,10 +74,10 @@ array-read-depths : tie.Need-array-read-depths Inv-loop μ-loop
 array-read-depths c = search needs
 
 mul-depths-2 : tie.Need-mul-depths-2 Inv-loop μ-loop
-mul-depths-2 c = omega (arith, small c)
+mul-depths-2 c = omega (arith, small (c .before))
 
-array-write-depths : tie.Need-array-write-depths Inv-loop μ-loop
-array-write-depths c = omega (arith, small c)
+element-write-depths : tie.Need-element-write-depths Inv-loop μ-loop
+element-write-depths c = omega (arith, small (c .before))
 
 add-j : tie.Need-add-j Inv-loop μ-loop
 add-j c = search needs
@@ -86,21 +87,21 @@ loop-less c = search needs
 
 loop-again : tie.Need-loop-again Inv-loop μ-loop
 loop-again c =
-    let i = c .before .loop in
-    let b = c .before .before .before .before .before in
-    let n = b .before .before .before .before .args .n in
-    let r = b .place-numbers .result in (
+    let i = c .before .before .loop in
+    let b = c .before .before .before in
+    let n = b .before .before .before .before .before .before .before .before .args .n in
+    let r = b .place-numbers .last .1 .1 .1 in (
       omega arith,
       simp length-set (i .inv .1),
       simp length-set (i .inv .2),
-      placed-more n (r .places) (r .befores) (i .order) (i .depths) (i .j) (own b) (omega arith) (i .inv .1)
-          (i .inv .2) (i .inv .3),
+      placed-more n (r .0) (r .1 .1 .0) (i .order) (i .depths) (i .j) (own b) (omega arith) (i .inv .1) (i .inv .2)
+          (i .inv .3),
     )
 
 returns : tie.Need-returns Inv-loop μ-loop
 returns c =
-    let b = c .before .before .before .before .before in
-    let p = b .before .before .before .before .pre in
+    let b = c .before .before in
+    let p = b .before .before .before .before .before .before .before .before .pre in
     plan-made _ _ (p .0) (p .1) (prepared b) (b .place-numbers .ensures)
     (λ k h. c .before .loop .inv .3 k (omega arith))
 
@@ -114,13 +115,13 @@ leaf-order-spec =
     place-numbers-requires
     loop-holds
     mul-p
-    array-read-p
+    element-copy-out-p
     mul-order
-    array-write-order
+    element-write-order
     mul-depths
     array-read-depths
     mul-depths-2
-    array-write-depths
+    element-write-depths
     add-j
     loop-less
     loop-again

@@ -6,14 +6,11 @@ use mathlib.Core.Logic.{_≢_}
 use mathlib.Core.List.{List}
 use Prim.Native.Nat.{ℕ, _+_, _-_, _*_, _≤_, _<_}
 use lib.ListN.{getD}
-use Rattle.limits.specs.Limits.{most-leaves, IsLeafCount}
+use Rattle.limits.specs.Limits.{most-leaves, most-scale, IsLeafCount}
 use Rattle.pair_counts.specs.Pairs.{P}
 use Rattle.trees.specs.Tables.{cell, IsTable}
 
 -- the scale of a table: 1 of a count table, and at most that of a poll's
-abbrev pub most-scale : ℕ
-most-scale = 6
-
 abbrev pub IsScale : ℕ → Type 0
 IsScale s = (1 ≤ s) × (s ≤ most-scale)
 

@@ -21,35 +21,36 @@ abbrev gap-at : (n scale : ℕ) → List ℕ → List ℕ → ℕ → ℤ
 gap-at n scale t l k = pos (getD t k 0) -ℤ pos (scale * quartets n (tree-of n l) (k / n) (k % n))
 
 abbrev Inv-loop : tie.InvT-loop
-Inv-loop n scale cells listing out₀ plan tops₀ i₀ out tops i =
+Inv-loop n scale cells listing out₀ places aboves order depths tops₀ i₀ out tops i =
     (i ≤ n) × (length tops ≡ most-leaves) × (out ≡ filled (i * n) (gap-at n scale cells listing) out₀)
 
 abbrev μ-loop : tie.MeasureT-loop
-μ-loop n scale cells listing out₀ plan tops₀ i₀ out tops i = n - i
+μ-loop n scale cells listing out₀ places aboves order depths tops₀ i₀ out tops i = n - i
 
 abbrev f : tie.Start Inv-loop μ-loop → ℕ → ℤ
 f s = gap-at (s .args .n) (s .args .scale) (s .args .cells .now) (s .args .listing .now)
 
 leaf-order-requires : tie.Need-leaf-order-requires Inv-loop μ-loop
-leaf-order-requires c κs = let p = c .before .before .pre in (p .0, p .3)
+leaf-order-requires c κs = let p = c .before .before .before .before .before .before .pre in (p .0, p .3, refl, refl, refl, refl)
 
 loop-holds : tie.Need-loop-holds Inv-loop μ-loop
-loop-holds c = let s = c .before .before .before in (omega arith, refl, rows-none (f s) _ _)
+loop-holds c = let s = c .before .before .before .before .before .before .before in (omega arith, refl, rows-none (f s) _ _)
 
 find-row-requires : tie.Need-find-row-requires Inv-loop μ-loop
 find-row-requires c κs =
-    let i = c .before .before .before .before .before .before .before .loop in
-    let made = c .before .before .before .before .before .before .before .before in
-    let p = made .before .before .before .pre in
-    row-asked _ _ (p .0) (p .3) (made .leaf-order .ensures) (i .tops) (omega arith) (i .inv .1)
+    let tested = c .before .before .before .before .before in
+    let i = tested .before .loop in
+    let made = tested .before .before in
+    let s = made .before .before .before .before .before .before .before in
+    row-asked _ _ (s .pre .0) (s .pre .3) (made .leaf-order .ensures) (i .tops) (omega arith) (i .inv .1)
 
 subtract-row-requires : tie.Need-subtract-row-requires Inv-loop μ-loop
 subtract-row-requires c κs =
-    let found = c .before .before .before .before .find-row .ensures in
-    let tested = c .before .before .before .before .before .before .before .before .before .before .before in
+    let found = c .before .before .before .find-row .ensures in
+    let tested = c .before .before .before .before .before .before .before .before .before in
     let i = tested .before .loop in
     let made = tested .before .before in
-    let s = made .before .before .before in
+    let s = made .before .before .before .before .before .before .before in
     let long = rows-room (f s) _ (s .args .n) (i .i) (i .inv .0) (s .pre .4) (i .inv .2) in (
       record {
         few = s .pre .0 .1;
@@ -70,28 +71,27 @@ loop-less c = search needs
 
 loop-again : tie.Need-loop-again Inv-loop μ-loop
 loop-again c =
-    let put = c .before in
-    let found = put .before .before .before .before .before .find-row .ensures in
-    let tested = put .before .before .before .before .before .before .before .before .before .before .before .before in
+    let found = c .before .before .before .before .before .find-row .ensures in
+    let tested = c .before .before .before .before .before .before .before .before .before .before .before in
     let i = tested .before .loop in
     let made = tested .before .before in
-    let s = made .before .before .before in
+    let s = made .before .before .before .before .before .before .before in
     let cell =
-    cell-is _ _ (s .pre .0) (s .pre .3) (made .leaf-order .ensures) (tested .loop-test .taken)
-    (found .0) (found .1) in
-    let more = put .subtract-row .ensures (f s) _ (λ j lj. rw (cell j lj)) (i .inv .2) in
+    cell-is _ _ (s .pre .0) (s .pre .3) (made .leaf-order .ensures) (tested .loop-test .taken) (found .0)
+    (found .1) in
+    let more = c .before .subtract-row .ensures (f s) _ (λ j lj. rw (cell j lj)) (i .inv .2) in
     (omega arith, found .1 .long, rows-more (f s) _ (s .args .n) (i .i) more)
 
 same-length : tie.Need-same-length Inv-loop μ-loop
 same-length c =
-    let s = c .before .before .before .before .before in
+    let s = c .before .before .before .before .before .before .before .before .before in
     let i = c .before .loop in
     rows-room (f s) _ (s .args .n) (i .i) (i .inv .0) (s .pre .4) (i .inv .2)
 
 returns : tie.Need-returns Inv-loop μ-loop
 unfolding gaps
 returns c =
-    let s = c .before .before .before .before .before in
+    let s = c .before .before .before .before .before .before .before .before .before in
     let i = c .before .loop in
     rows-all (f s) _ (s .args .n) (i .i) (omega arith) (i .inv .2)
 

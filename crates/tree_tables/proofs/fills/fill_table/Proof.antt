@@ -20,35 +20,36 @@ abbrev cell-at : ℕ → List ℕ → ℕ → ℕ
 cell-at n l k = quartets n (tree-of n l) (k / n) (k % n)
 
 abbrev Inv-loop : tie.InvT-loop
-Inv-loop n listing out₀ plan tops₀ i₀ out tops i =
+Inv-loop n listing out₀ places aboves order depths tops₀ i₀ out tops i =
     (i ≤ n) × (length tops ≡ most-leaves) × (out ≡ filled (i * n) (cell-at n listing) out₀)
 
 abbrev μ-loop : tie.MeasureT-loop
-μ-loop n listing out₀ plan tops₀ i₀ out tops i = n - i
+μ-loop n listing out₀ places aboves order depths tops₀ i₀ out tops i = n - i
 
 abbrev f : tie.Start Inv-loop μ-loop → ℕ → ℕ
 f s = cell-at (s .args .n) (s .args .listing .now)
 
 leaf-order-requires : tie.Need-leaf-order-requires Inv-loop μ-loop
-leaf-order-requires c κs = let p = c .before .before .pre in (p .0, p .1)
+leaf-order-requires c κs = let p = c .before .before .before .before .before .before .pre in (p .0, p .1, refl, refl, refl, refl)
 
 loop-holds : tie.Need-loop-holds Inv-loop μ-loop
-loop-holds c = let s = c .before .before .before in (omega arith, refl, rows-none (f s) _ _)
+loop-holds c = let s = c .before .before .before .before .before .before .before in (omega arith, refl, rows-none (f s) _ _)
 
 find-row-requires : tie.Need-find-row-requires Inv-loop μ-loop
 find-row-requires c κs =
-    let i = c .before .before .before .before .before .before .before .loop in
-    let made = c .before .before .before .before .before .before .before .before in
-    let p = made .before .before .before .pre in
-    row-asked _ _ (p .0) (p .1) (made .leaf-order .ensures) (i .tops) (omega arith) (i .inv .1)
+    let tested = c .before .before .before .before .before in
+    let i = tested .before .loop in
+    let made = tested .before .before in
+    let s = made .before .before .before .before .before .before .before in
+    row-asked _ _ (s .pre .0) (s .pre .1) (made .leaf-order .ensures) (i .tops) (omega arith) (i .inv .1)
 
 write-row-requires : tie.Need-write-row-requires Inv-loop μ-loop
 write-row-requires c κs =
-    let found = c .before .before .before .before .find-row .ensures in
-    let tested = c .before .before .before .before .before .before .before .before .before .before .before in
+    let found = c .before .before .before .find-row .ensures in
+    let tested = c .before .before .before .before .before .before .before .before .before in
     let i = tested .before .loop in
     let made = tested .before .before in
-    let s = made .before .before .before in
+    let s = made .before .before .before .before .before .before .before in
     let long = rows-room (f s) _ (s .args .n) (i .i) (i .inv .0) (s .pre .2) (i .inv .2) in
     record {
       few = s .pre .0 .1;
@@ -66,28 +67,27 @@ loop-less c = search needs
 
 loop-again : tie.Need-loop-again Inv-loop μ-loop
 loop-again c =
-    let put = c .before .before in
-    let found = put .before .before .before .before .before .find-row .ensures in
-    let tested = put .before .before .before .before .before .before .before .before .before .before .before .before in
+    let found = c .before .before .before .before .before .before .find-row .ensures in
+    let tested = c .before .before .before .before .before .before .before .before .before .before .before .before in
     let i = tested .before .loop in
     let made = tested .before .before in
-    let s = made .before .before .before in
+    let s = made .before .before .before .before .before .before .before in
     let cell =
-    cell-is _ _ (s .pre .0) (s .pre .1) (made .leaf-order .ensures) (tested .loop-test .taken)
-    (found .0) (found .1) in
-    let more = put .write-row .ensures (f s) _ cell (i .inv .2) in
+    cell-is _ _ (s .pre .0) (s .pre .1) (made .leaf-order .ensures) (tested .loop-test .taken) (found .0)
+    (found .1) in
+    let more = c .before .before .write-row .ensures (f s) _ cell (i .inv .2) in
     (omega arith, found .1 .long, rows-more (f s) _ (s .args .n) (i .i) more)
 
 same-length : tie.Need-same-length Inv-loop μ-loop
 same-length c =
-    let s = c .before .before .before .before .before in
+    let s = c .before .before .before .before .before .before .before .before .before in
     let i = c .before .loop in
     rows-room (f s) _ (s .args .n) (i .i) (i .inv .0) (s .pre .2) (i .inv .2)
 
 returns : tie.Need-returns Inv-loop μ-loop
 unfolding table-of
 returns c =
-    let s = c .before .before .before .before .before in
+    let s = c .before .before .before .before .before .before .before .before .before in
     let i = c .before .loop in
     rows-all (f s) _ (s .args .n) (i .i) (omega arith) (i .inv .2)
 
