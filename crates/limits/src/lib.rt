@@ -30,6 +30,3 @@ pub enum Kind {
     Counts,
     Poll,
 }
-
-// The largest scale of a table: a poll's cells are sixths.
-pub const MOST_SCALE: u32 = 6;
