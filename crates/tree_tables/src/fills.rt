@@ -83,21 +83,12 @@ pub(crate) fn fill_table(n: usize, listing: &[u16], out: &mut [u32])
     let mut places = [0usize; MOST_NODES];
     let mut aboves = [0u32; MOST_NODES];
     let mut order = [0usize; MOST_LEAVES];
-    let mut depths = [0u32; MOST_LEAVES];
+    let mut depth = [0u32; MOST_LEAVES];
     let mut tops = [0u32; MOST_LEAVES];
-    leaf_order(
-        n,
-        listing,
-        &mut places,
-        &mut aboves,
-        &mut order,
-        &mut depths,
-    );
-    let mut i: usize = 0;
-    while i < n {
-        let base = find_row(n, &places, &aboves, &order, &depths, i, &mut tops);
+    leaf_order(n, listing, &mut places, &mut aboves, &mut order, &mut depth);
+    for i in 0..n {
+        let base = find_row(n, &places, &aboves, &order, &depth, i, &mut tops);
         write_row(n, i, base, &aboves, &tops, out);
-        i += 1;
     }
 }
 
@@ -111,20 +102,11 @@ pub(crate) fn fill_gap(n: usize, scale: u32, cells: &[u32], listing: &[u16], out
     let mut places = [0usize; MOST_NODES];
     let mut aboves = [0u32; MOST_NODES];
     let mut order = [0usize; MOST_LEAVES];
-    let mut depths = [0u32; MOST_LEAVES];
+    let mut depth = [0u32; MOST_LEAVES];
     let mut tops = [0u32; MOST_LEAVES];
-    leaf_order(
-        n,
-        listing,
-        &mut places,
-        &mut aboves,
-        &mut order,
-        &mut depths,
-    );
-    let mut i: usize = 0;
-    while i < n {
-        let base = find_row(n, &places, &aboves, &order, &depths, i, &mut tops);
+    leaf_order(n, listing, &mut places, &mut aboves, &mut order, &mut depth);
+    for i in 0..n {
+        let base = find_row(n, &places, &aboves, &order, &depth, i, &mut tops);
         subtract_row(n, i, scale, base, &aboves, &tops, cells, out);
-        i += 1;
     }
 }

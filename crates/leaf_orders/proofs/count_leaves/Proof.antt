@@ -54,7 +54,8 @@ mul-sizes-2 : tie.Need-mul-sizes-2 Inv-loop μ-loop
 mul-sizes-2 c = omega (arith, this (c .before) .second-before, c .before .before .before .before .before .pre .0 .1)
 
 element-copy-out-sizes-2 : tie.Need-element-copy-out-sizes-2 Inv-loop μ-loop
-element-copy-out-sizes-2 c = omega (arith, this (c .before) .second-before, c .before .before .before .before .before .pre .0 .1)
+element-copy-out-sizes-2 c =
+    omega (arith, this (c .before) .second-before, c .before .before .before .before .before .pre .0 .1)
 
 add-sizes : tie.Need-add-sizes Inv-loop μ-loop
 add-sizes c =

@@ -23,13 +23,15 @@ prepared :
     → (let a = c .before .before .before .before .before .before .before .before .args in
     Prepared (a .n) (a .listing .now) (c .before .before .before .before .before .count-leaves .last .1 .1 .0))
 prepared c =
-    let p = c .before .before .before .before .before .before .before .before .pre in
-    record { leaf-count = p .0; listing = p .1; sized = c .before .before .before .before .before .count-leaves .ensures }
+    let counted = c .before .before .before .before .before in
+    let p = counted .before .before .before .pre in
+    record { leaf-count = p .0; listing = p .1; sized = counted .count-leaves .ensures }
 
 -- each leaf has a place of its own
 own :
     (c : tie.After-place-numbers Inv-loop μ-loop)
-    → OwnPlaces (c .before .before .before .before .before .before .before .before .args .n) (c .place-numbers .last .1 .1 .1 .0)
+    → OwnPlaces (c .before .before .before .before .before .before .before .before .args .n)
+    (c .place-numbers .last .1 .1 .1 .0)
 own c =
     let p = c .before .before .before .before .before .before .before .before .pre in
     own-places _ _ (p .0) (p .1) (prepared c) (c .place-numbers .ensures)
@@ -47,8 +49,12 @@ count-leaves-requires c κs = search needs
 
 place-numbers-requires : tie.Need-place-numbers-requires Inv-loop μ-loop
 place-numbers-requires c κs =
-    let p = c .before .before .before .before .before .before .before .pre in
-    (record { leaf-count = p .0; listing = p .1; sized = c .before .before .before .before .count-leaves .ensures }, p .2, p .3, refl)
+    let p = c .before .before .before .before .before .before .before .pre in (
+      record { leaf-count = p .0; listing = p .1; sized = c .before .before .before .before .count-leaves .ensures },
+      p .2,
+      p .3,
+      refl,
+    )
 
 loop-holds : tie.Need-loop-holds Inv-loop μ-loop
 loop-holds c =

@@ -106,8 +106,13 @@ element-copy-out-children-of c = omega arith
 
 children-of-requires : tie.Need-children-of-requires Inv-loop μ-loop
 children-of-requires c κs =
-    let i = c .before .before .loop in
-    (c .before .before .before .before .before .pre .0, omega arith, omega arith, i .inv .2 .small (i .c - 1) (omega arith))
+    let i = c .before .before .loop in (
+      c .before .before .before .before .before .pre .0,
+      omega arith,
+      omega arith,
+      i .inv .2 .small (i .c - 1)
+          (omega arith),
+    )
 
 mul-p : tie.Need-mul-p Inv-loop μ-loop
 mul-p c = omega arith

@@ -31,18 +31,21 @@ abbrev f : tie.Start Inv-loop μ-loop → ℕ → ℤ
 f s = gap-at (s .args .n) (s .args .scale) (s .args .cells .now) (s .args .listing .now)
 
 leaf-order-requires : tie.Need-leaf-order-requires Inv-loop μ-loop
-leaf-order-requires c κs = let p = c .before .before .before .before .before .before .pre in (p .0, p .3, refl, refl, refl, refl)
+leaf-order-requires c κs =
+    let p = c .before .before .before .before .before .before .pre in
+    (p .0, p .3, refl, refl, refl, refl)
 
 loop-holds : tie.Need-loop-holds Inv-loop μ-loop
-loop-holds c = let s = c .before .before .before .before .before .before .before in (omega arith, refl, rows-none (f s) _ _)
+loop-holds c =
+    let s = c .before .before .before .before .before .before .before in
+    (omega arith, refl, rows-none (f s) _ _)
 
 find-row-requires : tie.Need-find-row-requires Inv-loop μ-loop
 find-row-requires c κs =
-    let tested = c .before .before .before .before .before in
-    let i = tested .before .loop in
-    let made = tested .before .before in
-    let s = made .before .before .before .before .before .before .before in
-    row-asked _ _ (s .pre .0) (s .pre .3) (made .leaf-order .ensures) (i .tops) (omega arith) (i .inv .1)
+    let i = c .before .before .before .before .before .before .loop in
+    let made = c .before .before .before .before .before .before .before in
+    let p = made .before .before .before .before .before .before .before .pre in
+    row-asked _ _ (p .0) (p .3) (made .leaf-order .ensures) (i .tops) (omega arith) (i .inv .1)
 
 subtract-row-requires : tie.Need-subtract-row-requires Inv-loop μ-loop
 subtract-row-requires c κs =
