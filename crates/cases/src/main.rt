@@ -1,4 +1,4 @@
-// Runs the cases of the scope that no theorem lists, and the two rebuilds on tables like those that one does.
+// Runs the cases of trees that the scope gives and no theorem lists, and both rebuilds on tables like those of one.
 use refusals::Outcome;
 use refusals::Refusal;
 ghost use mathlib.Core.Path.{_≡_};
@@ -32,7 +32,8 @@ fn say_guided(answer: Outcome) {
 }
 
 // Whether a number is the one that the scope gives.
-fn say_whether(equal: bool) {
+fn say_whether(what: &[u8], equal: bool) {
+    io::write_all(1, what);
     if equal {
         io::write_all(1, b"yes\n");
         return;
@@ -47,10 +48,8 @@ fn gap_of_zeros() {
     let mut gaps = [0i64; 25];
     io::write_all(1, b"gap of the zero table against 3 4 2 5 1 6: ");
     say(tree_tables::gap(5, &zeros, &listing, &mut gaps));
-    io::write_all(1, b"-3 at (0,1): ");
-    say_whether(gaps[1] == -3);
-    io::write_all(1, b"0 at (0,3): ");
-    say_whether(gaps[3] == 0);
+    say_whether(b"-3 at (0,1): ", gaps[1] == -3);
+    say_whether(b"0 at (0,3): ", gaps[3] == 0);
 }
 
 fn say_number(number: u16) {
@@ -118,8 +117,9 @@ fn rebuild_damaged() {
 }
 
 // P7's table guided by these merges.
-fn guide_five(merges: &[u16; 8]) {
+fn guide_five(what: &[u8], merges: &[u16; 8]) {
     let mut listing = [9u16; 6];
+    io::write_all(1, what);
     say_guided(guided_rebuild::rebuild_guided(5, &FIVE, merges, &mut listing));
     say_listing(&listing);
 }
@@ -147,100 +147,35 @@ fn comb() -> [u16; limits::MOST_NUMBERS]
 }
 
 // Check, table and rebuild, with this leaf count, and a listing and a table that are right for the most leaves.
-fn leaf_count(n: usize) {
+fn leaf_count(what: &[u8], n: usize) {
     let listing = comb();
     let mut cells = [0u32; limits::MOST_CELLS];
     let mut rebuilt = [0u16; limits::MOST_NUMBERS];
+    io::write_all(1, b"check, table and rebuild, ");
+    io::write_all(1, what);
     say(listings::check(n, &listing));
     say(tree_tables::table(n, &listing, &mut cells));
     say(own_rebuild::rebuild(n, &cells, &mut rebuilt));
 }
 
-// What was answered of a sheet, with the leaf where a name is bad.
-fn say_of_names(answer: Outcome) {
-    let Outcome::Refused(cause) = answer else {
-        io::write_all(1, b"accepted\n");
-        return;
-    };
-    io::write_all(1, b"refused ");
-    io::print_decimal(1, refusals::number(cause) as u64);
-    if let Refusal::Name(leaf) = cause {
-        io::write_all(1, b" with ");
-        io::print_decimal(1, leaf as u64);
-    }
-    io::write_all(1, b"\n");
+// P7's table guided by eligible merges in two orders, and by proposals that are refused.
+fn guided() {
+    guide_five(b"guided by 3 4, 0 1, 2 3, 0 2: ", &[3, 4, 0, 1, 2, 3, 0, 2]);
+    guide_five(b"guided by 4 3, 1 0, 4 2, 1 4: ", &[4, 3, 1, 0, 4, 2, 1, 4]);
+    guide_five(b"guided by 3 4, 3 4, 2 3, 0 2: ", &[3, 4, 3, 4, 2, 3, 0, 2]);
+    guide_five(b"guided from 0 2: ", &[0, 2, 3, 4, 0, 1, 0, 3]);
 }
 
-// Sheets of three strains, the second with a name of 40 and of 41 bytes. All cells are 0.
-fn name_lengths() {
-    let forty =
-        b"\x01a\x28bbbbbbbbbbbbbbbbbbbbbbbbbbbbbbbbbbbbbbbb\x01c\0\0\0\0\0\0\x03\0\x2D\0\0\0QT";
-    let one_more =
-        b"\x01a\x29bbbbbbbbbbbbbbbbbbbbbbbbbbbbbbbbbbbbbbbbb\x01c\0\0\0\0\0\0\x03\0\x2E\0\0\0QT";
-    io::write_all(1, b"a name of 40 bytes: ");
-    say_of_names(sheets::check_sheet(forty));
-    io::write_all(1, b"a name of 41 bytes: ");
-    say_of_names(sheets::check_sheet(one_more));
-}
-
-// The name of a leaf, or why there is none.
-fn say_name(name: &[u8], answer: Outcome) {
-    let Outcome::Done = answer else {
-        say(answer);
-        return;
-    };
-    io::write_all(1, name);
-    io::write_all(1, b"\n");
-}
-
-// Reads a sheet, and shows the name of a leaf as the bytes of the sheet themselves.
-fn show_name(bytes: &[u8], leaf: usize) {
-    let reading = sheets::read_sheet(bytes);
-    let named = sheet_names::name(reading.sheet, leaf);
-    say_name(named.bytes, named.outcome);
-}
-
-// The scope's sheet of five strains: its table, and names in it.
-fn sheet_of_five() {
-    let sheet =
-        b"\x01a\x01b\x01c\x01d\x01e\x03\0\x01\0\0\0\0\0\x01\0\0\0\0\0\x01\0\x01\0\x03\0\x05\0\x0A\0\0\0QT";
-    let mut cells = [9u32; 25];
-    io::write_all(1, b"table of the sheet of five strains: ");
-    say(sheet_tables::sheet_table(sheet, &mut cells));
-    io::write_all(1, b"its leaf count: ");
-    io::print_decimal(1, sheets::leaf_count_of(sheet) as u64);
-    io::write_all(1, b"\n3 at (0,1): ");
-    say_whether(cells[1] == 3);
-    io::write_all(1, b"3 at (1,0): ");
-    say_whether(cells[5] == 3);
-    io::write_all(1, b"1 at (2,4): ");
-    say_whether(cells[14] == 1);
-    io::write_all(1, b"0 at (4,4): ");
-    say_whether(cells[24] == 0);
-    io::write_all(1, b"the name of leaf 4: ");
-    show_name(sheet, 4);
-    io::write_all(1, b"the name of leaf 5: ");
-    show_name(sheet, 5);
+fn leaf_counts() {
+    leaf_count(b"2 leaves:\n", 2);
+    leaf_count(b"one leaf too many:\n", limits::MOST_LEAVES + 1);
+    leaf_count(b"the most leaves:\n", limits::MOST_LEAVES);
 }
 
 fn main() {
     gap_of_zeros();
     rebuild_five();
     rebuild_damaged();
-    io::write_all(1, b"guided by 3 4, 0 1, 2 3, 0 2: ");
-    guide_five(&[3, 4, 0, 1, 2, 3, 0, 2]);
-    io::write_all(1, b"guided by 4 3, 1 0, 4 2, 1 4: ");
-    guide_five(&[4, 3, 1, 0, 4, 2, 1, 4]);
-    io::write_all(1, b"guided by 3 4, 3 4, 2 3, 0 2: ");
-    guide_five(&[3, 4, 3, 4, 2, 3, 0, 2]);
-    io::write_all(1, b"guided from 0 2: ");
-    guide_five(&[0, 2, 3, 4, 0, 1, 0, 3]);
-    io::write_all(1, b"check, table and rebuild, 2 leaves:\n");
-    leaf_count(2);
-    io::write_all(1, b"check, table and rebuild, one leaf too many:\n");
-    leaf_count(limits::MOST_LEAVES + 1);
-    io::write_all(1, b"check, table and rebuild, the most leaves:\n");
-    leaf_count(limits::MOST_LEAVES);
-    sheet_of_five();
-    name_lengths();
+    guided();
+    leaf_counts();
 }

@@ -1,6 +1,6 @@
--- `cases::show_name` is safe and ends: a walk of its MIR, by hand. The sheet is read and kept in a local, a name in it
--- is asked for, and the name's bytes and the outcome are passed on. Of what the three calls say nothing is needed: what
--- they return is taken apart, and each part goes to the next call.
+-- `sheet_cases::show_name` is safe and ends: a walk of its MIR, by hand. The sheet is read and kept in a local, a
+-- name in it is asked for, and the name's bytes and the outcome are passed on. Of what the three calls say nothing is
+-- needed: what they return is taken apart, and each part goes to the next call.
 use mathlib.Core.Path.{_≡_, refl, ap}
 use Prim.Native.Nat.{ℕ, _<_, _^_}
 use mathlib.Core.List.{List, [], _∷_}
@@ -65,14 +65,14 @@ use Rattle.sheet_names.proofs.name as ask
 use Rattle.sheet_names.proofs.name.Symbol as ask-def
 use Rattle.sheet_names.proofs.name.Symbol.{name as #sheet_names·name}
 use Rattle.sheet_names.proofs.name.Met as ask-thm
-use Rattle.cases.proofs.say_name as say
-use Rattle.cases.proofs.say_name.Symbol as say-def
-use Rattle.cases.proofs.say_name.Symbol.{name as #cases·say-name}
-use Rattle.cases.proofs.say_name.Met as say-thm
-use Rattle.cases.proofs.show_name.Key.{name as #cases·show-name}
-use Rattle.cases.proofs.show_name as show
-use Rattle.cases.proofs.show_name.Statement as stated
-use Rattle.cases.proofs.show_name.Code as code
+use Rattle.sheet_cases.proofs.say_name as say
+use Rattle.sheet_cases.proofs.say_name.Symbol as say-def
+use Rattle.sheet_cases.proofs.say_name.Symbol.{name as #sheet-cases·say-name}
+use Rattle.sheet_cases.proofs.say_name.Met as say-thm
+use Rattle.sheet_cases.proofs.show_name.Key.{name as #sheet-cases·show-name}
+use Rattle.sheet_cases.proofs.show_name as show
+use Rattle.sheet_cases.proofs.show_name.Statement as stated
+use Rattle.sheet_cases.proofs.show_name.Code as code
 
 abbrev stayed : Stays (show.ended .signature .params) (show.ended .kept)
 stayed = (stay-none-slice (0 ∷ []) tt (plain (λ _. u8)) yes, (stay-none (λ _. usize) yes, tt))
@@ -236,7 +236,7 @@ module _ {M : Type 1} (𝓤 : URA M) (H : Heap 𝓤) (A : Atoms 𝓤) (W : Given
   module _ (C : Calls 𝓤 H) (Λ : Loops 𝓤 H) (fm : FmC 𝓤 H (W .laws) C)
       (known-read : Triple 𝓤 (C #sheets·read-sheet) (Read 𝓤 H A mem run))
       (known-ask : Triple 𝓤 (C #sheet_names·name) (Ask 𝓤 H A mem run))
-      (known-say : Triple 𝓤 (C #cases·say-name) (Say 𝓤 H A mem run)) where
+      (known-say : Triple 𝓤 (C #sheet-cases·say-name) (Say 𝓤 H A mem run)) where
     walk : Is Bytes s (v ∷ []) → ent 𝓤 Entry (WpFn 𝓤 H C Λ code.function (v ∷ vint w64 k ∷ []) Post)
     walk p =
         qed W (raw Entry ∷ []) ∵
@@ -309,7 +309,7 @@ module _ {M : Type 1} (𝓤 : URA M) (H : Heap 𝓤) (A : Atoms 𝓤) (W : Given
       (C : Calls 𝓤 H) (Λ : Loops 𝓤 H) → FmC 𝓤 H (W .laws) C
       → Triple 𝓤 (C #sheets·read-sheet) (Read 𝓤 H A mem run)
       → Triple 𝓤 (C #sheet_names·name) (Ask 𝓤 H A mem run)
-      → Triple 𝓤 (C #cases·say-name) (Say 𝓤 H A mem run)
+      → Triple 𝓤 (C #sheet-cases·say-name) (Say 𝓤 H A mem run)
       → Walks 𝓤 H A show.ended stayed (WpFn 𝓤 H C Λ code.function) (show.clauses 𝓤 H A mem run)
   show-name-walks C Λ fm known-read known-ask known-say =
       walked 𝓤 H A show.ended stayed (show.clauses 𝓤 H A mem run) (WpFn 𝓤 H C Λ code.function)
@@ -322,7 +322,7 @@ module _ {M : Type 1} (𝓤 : URA M) (H : Heap 𝓤) (A : Atoms 𝓤) (W : Given
       (𝓣 : Tables 𝓤 H)
       → Triple 𝓤 (𝓣 .C #sheets·read-sheet) (Read 𝓤 H A mem run)
       → Triple 𝓤 (𝓣 .C #sheet_names·name) (Ask 𝓤 H A mem run)
-      → Triple 𝓤 (𝓣 .C #cases·say-name) (Say 𝓤 H A mem run)
+      → Triple 𝓤 (𝓣 .C #sheet-cases·say-name) (Say 𝓤 H A mem run)
       → Meets 𝓤 H A show.signature (WpFn 𝓤 H (𝓣 .C) (𝓣 .Λ) code.function) (show.spec 𝓤 H A mem run)
   show-name-meets 𝓣 known-read known-ask known-say =
       walk-meets 𝓤 H A show.ended stayed W (
@@ -336,12 +336,12 @@ pub show-name-spec : {M : Type 1} → stated.statement M
 unfolding code.routine tablesOf
 show-name-spec 𝓤 H 𝓜 𝓖 𝓡 =
     entered 𝓤 H (tripleOf 𝓤 H (𝓖 .A) show.signature (show.spec 𝓤 H (𝓖 .A) (𝓜 .mem) (𝓡 .run)))
-    (tables 𝓤 H 𝓜 𝓡 code.env .C) (tables 𝓤 H 𝓜 𝓡 code.env .Λ) #cases·show-name code.function
+    (tables 𝓤 H 𝓜 𝓡 code.env .C) (tables 𝓤 H 𝓜 𝓡 code.env .Λ) #sheet-cases·show-name code.function
     (code.unfolded 𝓤 H 𝓜 𝓡)
     (show-name-meets 𝓤 H (𝓖 .A) (givenOf 𝓤 H 𝓜 𝓖) (𝓜 .mem) (𝓡 .run) (tablesOf 𝓤 H 𝓜 (tables 𝓤 H 𝓜 𝓡 code.env))
     (cited 𝓤 H (Read 𝓤 H (𝓖 .A) (𝓜 .mem) (𝓡 .run)) 𝓜 𝓡 code.env #sheets·read-sheet read-def.routine
     code.calls-sheets·read-sheet (read-thm.met 𝓤 H 𝓜 𝓖 𝓡))
     (cited 𝓤 H (Ask 𝓤 H (𝓖 .A) (𝓜 .mem) (𝓡 .run)) 𝓜 𝓡 code.env #sheet_names·name ask-def.routine
     code.calls-sheet-names·name (ask-thm.met 𝓤 H 𝓜 𝓖 𝓡))
-    (cited 𝓤 H (Say 𝓤 H (𝓖 .A) (𝓜 .mem) (𝓡 .run)) 𝓜 𝓡 code.env #cases·say-name say-def.routine
-    code.calls-cases·say-name (say-thm.met 𝓤 H 𝓜 𝓖 𝓡)))
+    (cited 𝓤 H (Say 𝓤 H (𝓖 .A) (𝓜 .mem) (𝓡 .run)) 𝓜 𝓡 code.env #sheet-cases·say-name say-def.routine
+    code.calls-sheet-cases·say-name (say-thm.met 𝓤 H 𝓜 𝓖 𝓡)))
