@@ -1,10 +1,9 @@
--- `listings::standard::in_order` meets its contract: the array has the least leaf under either child.
+-- `listings::standard::in_order` meets its contract: the least leaf under either child is known.
 use mathlib.Core.Path.{_≡_, _∙_}
 use Prim.Native.Nat.{_-_}
 use native.Mathlib.Omega.{arith}
 use borrow.Author.Needs.{needs}
 use borrow.Author.Tests.{lt-ltb, le-ltb}
-use lib.ListN.{getD}
 use Rattle.trees.specs.Trees.{least}
 use Rattle.listings.specs.inner.Standardising.{part, pick, row-first, row-second}
 use Rattle.listings.proofs.Rows.{RowOf, row-read}
@@ -26,39 +25,33 @@ this c =
     let w = c .before .before .pre .0 in
     row-read _ _ (w .count) (w .keeps) _ (omega arith) (c .row-at .ensures)
 
--- what the array has of its children
-told :
-    (c : tie.After-row-at)
-    → let a = c .before .before .args in
-    (getD (a .leasts .now) (c .row-at .result .first) 0 ≡ least
-    (part (a .n) (a .listing .now) (row-first (a .n) (a .listing .now) (a .v))))
-    × (getD (a .leasts .now) (c .row-at .result .second) 0 ≡ least
-    (part (a .n) (a .listing .now) (row-second (a .n) (a .listing .now) (a .v))))
-told c =
-    let p = c .before .before .pre in
-    let r = this c in (
-      p .1 .is _ (omega (arith, r .first-before, p .0)) ∙ rw (r .first-is),
-      p .1 .is _
-          (omega (arith, r .second-before, p .0)) ∙ rw (r .second-is),
+least-of-requires : tie.Need-least-of-requires
+least-of-requires c κs =
+    let p = c .before .before .pre .0 in (p .count, omega (arith, this c .first-before, p))
+
+least-of-requires-2 : tie.Need-least-of-requires-2
+least-of-requires-2 c κs =
+    let p = c .before .before .before .pre .0 in (p .count, omega (arith, this (c .before) .second-before, p))
+
+-- what is known of the least leaves under the two children
+known :
+    (c : tie.After-least-of2)
+    → let a = c .before .before .before .before .args in
+    (c .before .least-of .result ≡ least (part (a .n) (a .listing .now) (row-first (a .n) (a .listing .now) (a .v))))
+    × (c .least-of2 .result ≡ least (part (a .n) (a .listing .now) (row-second (a .n) (a .listing .now) (a .v))))
+known c =
+    let made = c .before .before in
+    let p = made .before .before .pre in
+    let r = this made in (
+      c .before .least-of .ensures ∙ p .1 .is _ (omega (arith, r .first-before, p .0)) ∙ rw (r .first-is),
+      c .least-of2 .ensures ∙ p .1 .is _ (omega (arith, r .second-before, p .0)) ∙ rw (r .second-is),
     )
-
-mul-if1 : tie.Need-mul-if1
-mul-if1 c = omega (arith, this c .first-before, c .before .before .pre .0)
-
-element-copy-out-if1 : tie.Need-element-copy-out-if1
-element-copy-out-if1 c = omega (arith, this c .first-before, c .before .before .pre .0)
-
-mul-if1-2 : tie.Need-mul-if1-2
-mul-if1-2 c = omega (arith, this (c .before) .second-before, c .before .before .before .pre .0)
-
-element-copy-out-if1-2 : tie.Need-element-copy-out-if1-2
-element-copy-out-if1-2 c = omega (arith, this (c .before) .second-before, c .before .before .before .pre .0)
 
 returns : tie.Need-returns
 unfolding pick
 returns c =
     let r = this (c .before .before .before) in
-    let e = told (c .before .before .before) in
+    let e = known (c .before) in
     let less = lt-ltb _ _ (rw (e .0, e .1) at (c .if1 .taken)) in
     (r .first-is ∙ rw less, r .second-is ∙ rw less)
 
@@ -66,19 +59,10 @@ returns-2 : tie.Need-returns-2
 unfolding pick
 returns-2 c =
     let r = this (c .before .before .before) in
-    let e = told (c .before .before .before) in
+    let e = known (c .before) in
     let more = le-ltb _ _ (rw (e .0, e .1) at (c .if1 .left)) in
     (r .second-is ∙ rw more, r .first-is ∙ rw more)
 
 pub in-order-spec : {M : Type 1} → statement M
 in-order-spec =
-    tie.close
-    (tie.spec
-    sub-row-at
-    row-at-requires
-    mul-if1
-    element-copy-out-if1
-    mul-if1-2
-    element-copy-out-if1-2
-    returns
-    returns-2)
+    tie.close (tie.spec sub-row-at row-at-requires least-of-requires least-of-requires-2 returns returns-2)

@@ -1,13 +1,12 @@
 -- `listings::standard::order_rows` meets its contract. The loop's invariant: the least leaves under the numbers before
--- v
--- are known, and the children of the nodes before v stand in order.
+-- v are known, and the children of the nodes before v stand in order.
 use mathlib.Core.Path.{_≡_, sym, _∙_}
 use Prim.Native.Nat.{_≤_, _*_, _-_}
 use native.Mathlib.Omega.{arith}
 use borrow.Author.Needs.{needs}
 use Rattle.listings.specs.inner.Standardising.{Leasts, InOrder, AtNode}
 use Rattle.listings.proofs.Nodes.{first-below, second-below, least-node}
-use Rattle.listings.proofs.Leasts.{leasts-more, order-none, order-more}
+use Rattle.listings.proofs.Leasts.{leasts-none, leasts-more, order-none, order-more}
 use Rattle.listings.proofs.standard.order_rows.Statement.{statement}
 use Rattle.listings.proofs.standard.order_rows.Tie as tie
 
@@ -31,7 +30,7 @@ at-node c = record {
 }
 
 loop-holds : tie.Need-loop-holds Inv-loop μ-loop
-loop-holds c = (omega arith, omega arith, c .before .pre .2, order-none _ _ _ (c .before .pre .3))
+loop-holds c = (omega arith, omega arith, leasts-none _ _ _ (c .before .pre .2), order-none _ _ _ (c .before .pre .3))
 
 mul-loop : tie.Need-mul-loop Inv-loop μ-loop
 mul-loop c = search needs
@@ -48,31 +47,44 @@ sub-k c = search needs
 mul-k : tie.Need-mul-k Inv-loop μ-loop
 mul-k c = search needs
 
+least-of-requires : tie.Need-least-of-requires Inv-loop μ-loop
+least-of-requires c κs =
+    let w = at-node (c .before .before .before) in
+    (w .count, omega (arith, c .before .in-order .ensures .0, first-below w, w))
+
+sub-leasts : tie.Need-sub-leasts Inv-loop μ-loop
+sub-leasts c = search needs
+
 mul-leasts : tie.Need-mul-leasts Inv-loop μ-loop
-mul-leasts c = omega (arith, c .in-order .ensures .0, first-below (at-node (c .before .before)))
-
-element-copy-out-leasts : tie.Need-element-copy-out-leasts Inv-loop μ-loop
-element-copy-out-leasts c = omega (arith, c .in-order .ensures .0, first-below (at-node (c .before .before)))
-
-mul-leasts-2 : tie.Need-mul-leasts-2 Inv-loop μ-loop
-mul-leasts-2 c = search needs
+mul-leasts c = search needs
 
 element-write-leasts : tie.Need-element-write-leasts Inv-loop μ-loop
-element-write-leasts c = search needs
+element-write-leasts c =
+    omega (
+      arith,
+      c .before .before .before .before .before .loop .inv .2 .long,
+      at-node (c .before .before .before .before),
+    )
 
 cast-sorted : tie.Need-cast-sorted Inv-loop μ-loop
-cast-sorted c = omega (arith, c .before .in-order .ensures .0, first-below (at-node (c .before .before .before)))
+cast-sorted c =
+    omega (arith, c .before .before .in-order .ensures .0, first-below (at-node (c .before .before .before .before)))
 
 mul-sorted : tie.Need-mul-sorted Inv-loop μ-loop
 mul-sorted c = search needs
 
 element-write-sorted : tie.Need-element-write-sorted Inv-loop μ-loop
 element-write-sorted c =
-    omega (arith, c .before .before .before .before .loop .inv .3 .long, at-node (c .before .before .before))
+    omega (
+      arith,
+      c .before .before .before .before .before .loop .inv .3 .long,
+      at-node (c .before .before .before .before),
+    )
 
 cast-sorted-2 : tie.Need-cast-sorted-2 Inv-loop μ-loop
 cast-sorted-2 c =
-    omega (arith, c .before .before .in-order .ensures .1, second-below (at-node (c .before .before .before .before)))
+    let w = at-node (c .before .before .before .before .before) in
+    omega (arith, c .before .before .before .in-order .ensures .1, second-below w)
 
 add-sorted : tie.Need-add-sorted Inv-loop μ-loop
 add-sorted c = search needs
@@ -84,9 +96,8 @@ element-write-sorted-2 : tie.Need-element-write-sorted-2 Inv-loop μ-loop
 element-write-sorted-2 c =
     omega (
       arith,
-      c .before .before .before .before .before .loop .inv .3 .long,
-      at-node
-          (c .before .before .before .before),
+      c .before .before .before .before .before .before .loop .inv .3 .long,
+      at-node (c .before .before .before .before .before),
     )
 
 add-v : tie.Need-add-v Inv-loop μ-loop
@@ -97,13 +108,13 @@ loop-less c = search needs
 
 loop-again : tie.Need-loop-again Inv-loop μ-loop
 loop-again c =
-    let w = at-node (c .before .before .before .before) in
-    let inv = c .before .before .before .before .before .loop .inv in
-    let made = c .before .before .in-order .ensures in
+    let w = at-node (c .before .before .before .before .before) in
+    let inv = c .before .before .before .before .before .before .loop .inv in
+    let made = c .before .before .before .in-order .ensures in
     let least-first = inv .2 .is _ (first-below w) ∙ sym (least-node w) in (
       omega arith,
       omega arith,
-      leasts-more _ _ _ _ _ (omega arith) (rw (made .0) least-first) (inv .2),
+      leasts-more _ _ _ _ _ (w .low) (omega arith) (c .before .least-of .ensures ∙ rw (made .0) least-first) (inv .2),
       order-more _ _ _ _ _ _ (w .low) (omega arith) (made .0) (made .1) (inv .3),
     )
 
@@ -125,9 +136,9 @@ order-rows-spec =
     in-order-requires
     sub-k
     mul-k
+    least-of-requires
+    sub-leasts
     mul-leasts
-    element-copy-out-leasts
-    mul-leasts-2
     element-write-leasts
     cast-sorted
     mul-sorted
