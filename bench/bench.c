@@ -1,5 +1,6 @@
 /* Measures every call of the part against plain C of the same algorithm, and against the floor (its buffers read and
-   written once); the rebuilds also against textbook neighbour joining, the table against counting quartets directly.
+   written once); the rebuilds also against textbook neighbour joining, the table against counting quartets directly;
+   export and import against another algorithm (plain_newick.c), import also with long texts.
    Each figure is a ratio of medians of rounds that take turns in this one run; no bare time is printed. With a file
    name it draws the growth of the calls with the number of leaves there, as an SVG. */
 #define _POSIX_C_SOURCE 200809L
@@ -11,7 +12,7 @@
 #include <string.h>
 #include <time.h>
 
-enum { MOST = 128, ROUNDS = 41, SHAPES = 3, COUNTS = 4 };
+enum { MOST = 128, ROUNDS = 41, SHAPES = 3, COUNTS = 4, LONG = 1 << 20 };
 static const size_t counts[COUNTS] = {16, 32, 64, 128};
 static const char *const shapes[SHAPES] = {"comb", "balanced", "random"};
 
@@ -20,8 +21,9 @@ static uint16_t listing[2 * MOST], standard[2 * MOST], merges[2 * MOST], joined[
 static uint32_t table[MOST * MOST], cells[MOST * MOST];
 static int64_t gaps[MOST * MOST];
 static uint8_t sets[QUARTREE_SET_BYTES * MOST], bytes[4 * MOST], sheet[QUARTREE_SHEET_MOST_BYTES];
+static uint8_t text[QUARTREE_TEXT_BYTES(MOST)], text_out[QUARTREE_TEXT_BYTES(MOST)], long_text[LONG];
 static struct quartree_record records[QUARTREE_POLL_RECORDS(32)];
-static size_t sheet_len;
+static size_t sheet_len, text_len, long_len;
 static volatile uint64_t sink;
 
 static double now(void)
@@ -160,6 +162,16 @@ static void make(int shape)
     if (quartree_sheet_table(sheet, sheet_len, table, n * n) != 256 * n
         || memcmp(table, cells, n * n * sizeof *cells) != 0)
         fail("a sheet was not read");
+    text_len = plain_export(sheet, sheet_len, listing, rows, text, sizeof text) >> 8;
+    if (quartree_export(sheet, sheet_len, listing, rows, text_out, text_len) != 256 * text_len
+        || memcmp(text_out, text, text_len) != 0)
+        fail("plain C exports another text");
+    memset(standard, 0, sizeof standard);
+    if (plain_import(sheet, sheet_len, text, text_len, standard, rows) != 0 || memcmp(standard, expected, size) != 0)
+        fail("plain C imports another tree");
+    memset(standard, 0, sizeof standard);
+    if (quartree_import(sheet, sheet_len, text, text_len, standard, rows) != 0 || memcmp(standard, expected, size) != 0)
+        fail("an export was not imported");
     if (n <= 32) {
         poll_of_tree();
         if (quartree_poll(n, records, QUARTREE_POLL_RECORDS(n), table, n * n) != 0
@@ -249,13 +261,33 @@ static void sheet_name_plain(void) { sink += plain_sheet_name(sheet, sheet_len, 
 static void rebuild_sheet(void) { sink += quartree_rebuild_sheet(sheet, sheet_len, bytes, 4 * (n - 2)); }
 static void rebuild_sheet_plain(void) { sink += (uint64_t)plain_rebuild_sheet(sheet, sheet_len, bytes); }
 static void rebuild_sheet_floor(void) { floor_of(sheet, sheet_len, bytes, 4 * (n - 2)); }
+static void export_ours(void)
+{
+    sink += quartree_export(sheet, sheet_len, listing, 2 * (n - 2), text_out, text_len);
+}
+static void export_plain(void) { sink += plain_export(sheet, sheet_len, listing, 2 * (n - 2), text_out, text_len); }
+static void export_floor(void) { floor_of(sheet, sheet_len, text_out, text_len); }
+static void import_ours(void) { sink += quartree_import(sheet, sheet_len, text, text_len, standard, 2 * (n - 2)); }
+static void import_plain(void) { sink += plain_import(sheet, sheet_len, text, text_len, standard, 2 * (n - 2)); }
+static void import_floor(void)
+{
+    sink += read_once(sheet, sheet_len);
+    floor_of(text, text_len, standard, 4 * (n - 2));
+}
+static void long_ours(void) { sink += quartree_import(sheet, sheet_len, long_text, long_len, standard, 2 * (n - 2)); }
+static void long_plain(void) { sink += plain_import(sheet, sheet_len, long_text, long_len, standard, 2 * (n - 2)); }
+static void long_floor(void)
+{
+    sink += read_once(sheet, sheet_len);
+    floor_of(long_text, long_len, standard, 4 * (n - 2));
+}
 static void joining(void)
 {
     neighbour_joining(n, cells, joined);
     sink += joined[0];
 }
 
-enum { CALLS = 13 };
+enum { CALLS = 15 };
 static const struct {
     const char *name;
     size_t most; /* leaves */
@@ -275,6 +307,8 @@ static const struct {
     {"sheet_table", 128, 20, sheet_table, sheet_table_plain, sheet_table_floor},
     {"sheet_name", 128, 20, sheet_name, sheet_name_plain, check_sheet_floor},
     {"rebuild_sheet", 128, 20, rebuild_sheet, rebuild_sheet_plain, rebuild_sheet_floor},
+    {"export", 128, 40, export_ours, export_plain, export_floor},
+    {"import", 128, 40, import_ours, import_plain, import_floor},
 };
 
 /* ---- Measuring. ---- */
@@ -348,6 +382,116 @@ static double damaged_ratio(void)
             if (times[i * n + j] > worst)
                 worst = times[i * n + j];
     return worst / least(accepted, rebuild_time());
+}
+
+/* ---- Long texts, all with the sheet of n leaves. ---- */
+
+/* The tree's text with as many blanks behind each comma as make it so long. */
+static void padded(size_t len)
+{
+    const size_t blanks = (len - text_len) / (n - 1);
+    long_len = 0;
+    for (size_t k = 0; k < text_len; k++) {
+        long_text[long_len++] = text[k];
+        if (text[k] == ',') {
+            memset(long_text + long_len, k % 2 == 0 ? ' ' : '\n', blanks);
+            long_len += blanks;
+        }
+    }
+}
+
+/* The tree's text, with a length behind every name and bracket. */
+static void with_lengths(void)
+{
+    static const char length[] = ":0.01234";
+    long_len = 0;
+    for (size_t k = 0; k + 1 < text_len; k++) {
+        long_text[long_len++] = text[k];
+        if (text[k] != '(' && text[k] != ',' && strchr(",);", text[k + 1]) != NULL) {
+            memcpy(long_text + long_len, length, sizeof length - 1);
+            long_len += sizeof length - 1;
+        }
+    }
+    long_text[long_len++] = ';';
+}
+
+/* A megabyte of one byte, or of two in turns. */
+static void filled(char byte, char other)
+{
+    for (long_len = 0; long_len < LONG; long_len += 2) {
+        long_text[long_len] = (uint8_t)byte;
+        long_text[long_len + 1] = (uint8_t)other;
+    }
+}
+static void of_blanks(void) { filled(' ', '\n'); }
+static void of_brackets(void) { filled('(', '('); }
+static void of_parts(void)
+{
+    filled(',', 's');
+    long_text[0] = '(';
+    memcpy(long_text + LONG - 2, ");", 2);
+}
+static void of_digits(void)
+{
+    filled('1', '2');
+    memcpy(long_text, "(s:", 3);
+    memcpy(long_text + LONG - 2, ");", 2);
+}
+
+/* Ours over plain C and over the floor. */
+static void print_long(const char *what, uint64_t due, int times)
+{
+    const size_t room = 2 * (n - 2);
+    if (quartree_import(sheet, sheet_len, long_text, long_len, standard, room) != due
+        || plain_import(sheet, sheet_len, long_text, long_len, standard, room) != due)
+        fail("a long text is answered otherwise");
+    printf("| %s | %zu | %.2f | %.2f |", what, long_len, ratio(long_ours, long_plain, times),
+           ratio(long_ours, long_floor, times));
+    fflush(stdout);
+}
+
+static void print_texts(void)
+{
+    static const struct {
+        const char *what;
+        void (*fill)(void);
+        uint64_t due;
+    } megabytes[] = {
+        {"a megabyte of blanks: 17 at its end", of_blanks, 17 + ((uint64_t)LONG << 8)},
+        {"a megabyte of brackets: 17 at the 128th", of_brackets, 17 + (127 << 8)},
+        {"a megabyte of parts of one bracket: 18", of_parts, 18},
+        {"a megabyte of one length: 18", of_digits, 18},
+    };
+    printf("Texts imported with the sheet of 128 leaves: ours over plain C, and over the floor; where blanks make the\n"
+           "text longer, ours over ours with the text before, and how many times as long it is:\n\n");
+    printf("| text | bytes | import | over the floor | growth |\n|---|---|---|---|---|\n");
+    n = MOST;
+    make(2);
+    with_lengths();
+    print_long("with lengths", 0, 20);
+    printf(" |\n");
+    double before = 0;
+    size_t len_before = 0;
+    for (size_t len = 1 << 12; len <= LONG; len *= 4) {
+        padded(len);
+        double taken[ROUNDS];
+        for (int r = 0; r < ROUNDS; r++)
+            taken[r] = timed(long_ours, 4);
+        double now_taken = median(taken);
+        print_long("padded by blanks", 0, 4);
+        if (before > 0)
+            printf(" %.1f of %.1f |\n", now_taken / before, (double)long_len / (double)len_before);
+        else
+            printf(" |\n");
+        before = now_taken;
+        len_before = long_len;
+    }
+    for (size_t k = 0; k < sizeof megabytes / sizeof *megabytes; k++) {
+        megabytes[k].fill();
+        print_long(megabytes[k].what, megabytes[k].due, 2);
+        printf(" |\n");
+    }
+    printf("\n");
 }
 
 /* Each call's median time at every leaf count over that at the smallest, of random trees. */
@@ -453,6 +597,7 @@ int main(int argc, char **argv)
     print_against("Ours over plain C of the same algorithm, on a random tree:", 0);
     print_against("Ours over the floor, its buffers read and written once:", 1);
     print_rebuilds();
+    print_texts();
     growth(grown);
     printf("Ours at 128 leaves over ours at 32, where n * n gives 16:");
     for (int k = 0; k < CALLS; k++)

@@ -1,5 +1,5 @@
-/* Plain C of the same algorithms, and two textbook ones, for the bench to measure against. They take lengths that have
-   been checked. */
+/* Plain C of the same algorithms, two textbook ones, and the fastest that was found for texts, for the bench to measure
+   against. Unless it is said otherwise they take lengths that have been checked. */
 #ifndef PLAIN_H
 #define PLAIN_H
 #include <stddef.h>
@@ -32,6 +32,11 @@ int plain_sheet_table(const uint8_t *sheet, size_t len, uint32_t *out);
 int plain_rebuild_sheet(const uint8_t *sheet, size_t len, uint8_t *out);
 /* 256 times the place of a name's first byte and its length, of a sheet that is accepted; else 0. */
 size_t plain_sheet_name(const uint8_t *sheet, size_t len, size_t leaf);
+/* The text of a listing's tree, and the tree of a text: all judged, and the reply as the part's. */
+uint64_t plain_export(const uint8_t *sheet, size_t sheet_len, const uint16_t *listing, size_t len, uint8_t *text,
+                      size_t room);
+uint64_t plain_import(const uint8_t *sheet, size_t sheet_len, const uint8_t *text, size_t len, uint16_t *out,
+                      size_t room);
 /* Textbook neighbour joining, n * n * n, with the counts taken for similarities: the pairs joined, as leaf numbers.
    It makes no listing and refuses nothing. */
 void neighbour_joining(size_t n, const uint32_t *table, uint16_t *joined);

@@ -17,8 +17,9 @@ static uint16_t merges[QUARTREE_MERGE_NUMBERS(N)], question[4];
 static uint32_t own_table[N * N], table[N * N], table_out[N * N], sums[POLL * POLL];
 static int64_t gaps[N * N];
 static uint8_t sets[QUARTREE_SPLIT_BYTES(N)], bytes[QUARTREE_LISTING_BYTES(N)], sheet[QUARTREE_SHEET_MOST_BYTES + 1];
+static uint8_t text[QUARTREE_TEXT_BYTES(N)], text_out[QUARTREE_TEXT_BYTES(N)];
 static struct quartree_record records[QUARTREE_POLL_RECORDS(POLL)];
-static size_t leaves, poll_leaves, numbers, cells, room, sheet_len, names_len, leaf;
+static size_t leaves, poll_leaves, numbers, cells, room, sheet_len, names_len, text_len, leaf;
 static uint64_t reply;
 
 /* ---- The calls --------------------------------------------------------------------------------------------------- */
@@ -53,6 +54,14 @@ static void check_sheet(void) { reply = quartree_check_sheet(sheet, sheet_len); 
 static void sheet_table(void) { reply = quartree_sheet_table(sheet, sheet_len, table_out, of(N * N)); }
 static void sheet_name(void) { reply = quartree_sheet_name(sheet, sheet_len, leaf); }
 static void rebuild_sheet(void) { reply = quartree_rebuild_sheet(sheet, sheet_len, bytes, of(sizeof bytes)); }
+static void write_text(void)
+{
+    reply = quartree_export(sheet, sheet_len, listing, numbers, text_out, of(sizeof text_out));
+}
+static void read_text(void)
+{
+    reply = quartree_import(sheet, sheet_len, text, text_len, standard, of(QUARTREE_LISTING_NUMBERS(N)));
+}
 
 static const struct {
     const char *name;
@@ -61,6 +70,7 @@ static const struct {
     {"check", check}, {"standardise", standardise}, {"splits", splits}, {"pairing", pairing}, {"table", write_table},
     {"gap", gap}, {"rebuild", rebuild}, {"rebuild_guided", guided}, {"poll", poll}, {"check_sheet", check_sheet},
     {"sheet_table", sheet_table}, {"sheet_name", sheet_name}, {"rebuild_sheet", rebuild_sheet},
+    {"export", write_text}, {"import", read_text},
 };
 enum { CALLS = sizeof calls / sizeof *calls };
 
@@ -135,6 +145,23 @@ static void fill_sheet(void)
     sheet_len = at + sizeof trailer;
 }
 
+/* The tree's text. Where turned is 1, the names of leaf 0 and the last leaf change places in it, so that leaf 0 stands
+   within, and the top is not at its node. */
+static void fill_text(size_t turned)
+{
+    uint8_t *first = text + 1, *last = NULL, name[40];
+    text_len = QUARTREE_FIGURE(quartree_export(sheet, sheet_len, listing, QUARTREE_LISTING_NUMBERS(N), text,
+                                               sizeof text));
+    for (size_t at = 0; turned == 1 && at + sizeof name <= text_len; at++)
+        if (memcmp(text + at, sheet + names_len - sizeof name, sizeof name) == 0)
+            last = text + at;
+    if (last != NULL) {
+        memcpy(name, first, sizeof name);
+        memcpy(first, last, sizeof name);
+        memcpy(last, name, sizeof name);
+    }
+}
+
 static void fill(int shape, size_t turned)
 {
     size_t k = 0;
@@ -143,6 +170,7 @@ static void fill(int shape, size_t turned)
     for (uint16_t i = 0; i < 4; i++)
         question[i] = (uint16_t)(i * (N - 1) / 3);
     fill_sheet();
+    fill_text(turned);
     for (uint8_t a = 0; a < POLL; a++)
         for (uint8_t b = (uint8_t)(a + 1); b < POLL; b++)
             for (uint8_t c = (uint8_t)(b + 1); c < POLL; c++)
@@ -211,11 +239,23 @@ static void other_ending(void) { sheet[sheet_len - 1]++; }
 static void offset_too_great(void) { sheet[sheet_len - 6]++; }
 static void bad_byte_in_last_name(void) { sheet[names_len - 1] = '_'; }
 static void last_name_again(void) { memcpy(sheet + names_len - 41, sheet, 41); }
+static void text_stops(void) { text_len--; }
+static void brackets_alone(void) { memset(text, '(', text_len); }
+static void node_of_one_part(void)
+{
+    memset(text, '(', N - 1);
+    text[N - 1] = '0';
+    memset(text + N, ')', N - 1);
+    text[2 * N - 1] = ';';
+    text_len = 2 * N;
+}
+static void name_unknown(void) { text[1] = 'x'; }
 
 static void (*const faults[])(void) = {
     none, too_many_leaves, input_short, room_short, diagonal_filled, halves_unequal, table_of_zeros, one_cell_wrong,
     any_table, child_not_allowed, child_again, leaf_not_there, record_not_due, code_above_3, first_proposal_stops,
     middle_proposal_stops, last_proposal_stops, other_ending, offset_too_great, bad_byte_in_last_name, last_name_again,
+    text_stops, brackets_alone, node_of_one_part, name_unknown,
 };
 enum { FAULTS = sizeof faults / sizeof *faults };
 
@@ -266,7 +306,7 @@ int main(void)
         printf("| %s | %zu |\n", calls[c].name, taken[c]);
         most = taken[c] > most ? taken[c] : most;
     }
-    if (answered != (1u << 17) - 1) {
+    if (answered != (1u << 20) - 1) {
         printf("not every refusal was met: %x\n", answered);
         return 1;
     }

@@ -1,4 +1,4 @@
-/* draw.c: listings, lists of merges, tables, questions, polls and sheets, drawn from the fuzzer's bytes. */
+/* draw.c: listings, lists of merges, tables, questions, polls, sheets and texts, drawn from the fuzzer's bytes. */
 
 #include "draw.h"
 #include <string.h>
@@ -767,4 +767,140 @@ size_t draw_leaf(struct source *source, size_t n)
     if (take(source) >= 224)
         return refused[below(source, LENGTH(refused))];
     return below(source, n);
+}
+
+/* ---- Texts ------------------------------------------------------------------------------------------------------- */
+
+size_t draw_sheet_for_text(struct source *source, uint8_t *sheet)
+{
+    static struct parts parts;
+    if (take(source) >= 208)
+        return draw_sheet(source, sheet);
+    parts.n = draw_leaf_count(source);
+    parts.n = parts.n >= QUARTREE_LEAST_LEAVES && parts.n <= QUARTREE_MOST_LEAVES ? parts.n : 5;
+    parts.leaf_count = (uint16_t)parts.n;
+    parts.left_over = 0;
+    parts.offset_shift = 0;
+    parts.ending[0] = 0x51;
+    parts.ending[1] = 0x54;
+    parts.cells = parts.n * (parts.n - 1) / 2;
+    memset(parts.cell, 0, sizeof parts.cell);
+    draw_names(source, &parts);
+    return write_parts(source, &parts, sheet);
+}
+
+/* A text as it is written: with blanks once in so many places, and lengths; 0 for never. */
+struct pen {
+    struct source *source;
+    unsigned blanks, lengths;
+    uint8_t *text;
+    size_t len;
+};
+
+/* A byte is dropped where the text is as long as it can be, less what closes it and damage adds. */
+static void put_byte(struct pen *pen, uint8_t byte)
+{
+    if (pen->len < MOST_TEXT_BYTES - 2 * SLACK)
+        pen->text[pen->len++] = byte;
+}
+
+static bool happens(struct pen *pen, unsigned times)
+{
+    return times > 0 && take(pen->source) % times == 0;
+}
+
+static void put_blanks(struct pen *pen)
+{
+    static const char blanks[] = "\t\n\r ";
+    while (happens(pen, pen->blanks) && pen->len % 8 != 0)
+        put_byte(pen, (uint8_t)blanks[below(pen->source, 4)]);
+}
+
+static void put_length(struct pen *pen)
+{
+    static const char bytes[] = "0123456789.+-eE";
+    put_blanks(pen);
+    if (!happens(pen, pen->lengths))
+        return;
+    put_byte(pen, ':');
+    for (size_t left = 1 + below(pen->source, 6); left > 0; left--)
+        put_byte(pen, (uint8_t)bytes[below(pen->source, sizeof bytes - 1)]);
+    put_blanks(pen);
+}
+
+/* The names of a sheet, as far as they stand in it; the others are letters. */
+struct written_names {
+    const uint8_t *name[FITTED_LEAVES];
+    size_t len[FITTED_LEAVES];
+};
+
+static void find_names(const uint8_t *sheet, size_t sheet_len, size_t n, struct written_names *names)
+{
+    size_t at = 0;
+    for (size_t leaf = 0; leaf < n; leaf++) {
+        bool stands = at < sheet_len && at + 1 + sheet[at] <= sheet_len && sheet[at] > 0;
+        names->name[leaf] = stands ? sheet + at + 1 : (const uint8_t *)letters + leaf % 64;
+        names->len[leaf] = stands ? sheet[at] : 1;
+        at += stands ? 1 + (size_t)sheet[at] : 0;
+    }
+}
+
+/* A drawing of the subtree v: a leaf, or a node with two parts. */
+static void put_drawing(struct pen *pen, const struct written_names *names, size_t n, uint16_t (*parts)[2], size_t v)
+{
+    put_blanks(pen);
+    if (v < n) {
+        for (size_t byte = 0; byte < names->len[v]; byte++)
+            put_byte(pen, names->name[v][byte]);
+    } else {
+        put_byte(pen, '(');
+        put_drawing(pen, names, n, parts, parts[v - n][0]);
+        put_byte(pen, ',');
+        put_drawing(pen, names, n, parts, parts[v - n][1]);
+        put_byte(pen, ')');
+    }
+    put_length(pen);
+}
+
+/* A drawing of all leaves, mostly with a top of two or three parts. */
+static void put_top(struct pen *pen, const uint8_t *sheet, size_t sheet_len, size_t n)
+{
+    static struct written_names names;
+    uint16_t open[FITTED_LEAVES], parts[FITTED_LEAVES][2];
+    uint8_t kind = take(pen->source);
+    size_t count = n, top = kind < 216 ? 2 + kind % 2 : 1 + kind % 6;
+    find_names(sheet, sheet_len, n, &names);
+    for (size_t leaf = 0; leaf < n; leaf++)
+        open[leaf] = (uint16_t)leaf;
+    for (size_t node = 0; count > top; node++) {
+        for (size_t side = 0; side < 2; side++) {
+            size_t choice = below(pen->source, count);
+            parts[node][side] = open[choice];
+            open[choice] = open[--count];
+        }
+        open[count++] = (uint16_t)(n + node);
+    }
+    put_blanks(pen);
+    for (size_t part = 0; part < count; part++) {
+        put_byte(pen, part == 0 ? '(' : ',');
+        put_drawing(pen, &names, n, parts, open[part]);
+    }
+    put_byte(pen, ')');
+    put_length(pen);
+    put_byte(pen, ';');
+    put_blanks(pen);
+}
+
+size_t draw_text(struct source *source, const uint8_t *sheet, size_t sheet_len, size_t n, uint8_t *text)
+{
+    static const uint8_t times[] = {0, 0, 1, 2, 9};
+    struct pen pen = {source, 0, 0, text, 0};
+    if (take(source) >= 128)
+        return raw_bytes(source, text, MOST_TEXT_BYTES);
+    pen.blanks = times[below(source, LENGTH(times))];
+    pen.lengths = times[below(source, LENGTH(times))];
+    put_top(&pen, sheet, sheet_len, n);
+    for (unsigned left = draw_damages(source); left > 0 && pen.len > 0; left--)
+        pen.len = damage_bytes(source, text, pen.len);
+    return pen.len;
 }

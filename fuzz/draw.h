@@ -17,7 +17,8 @@ enum {
     MOST_NUMBERS = 2 * FITTED_LEAVES + SLACK,
     MOST_CELLS = FITTED_LEAVES * FITTED_LEAVES + SLACK,
     MOST_RECORDS = FITTED_POLL_LEAVES * 33 * 32 * 31 / 24 + SLACK,
-    MOST_SHEET_BYTES = 24576
+    MOST_SHEET_BYTES = 24576,
+    MOST_TEXT_BYTES = 24576
 };
 
 /* The fuzzer's bytes, taken one after the other. They go on for ever: after the last one come the bytes of a stream
@@ -60,5 +61,11 @@ size_t draw_sheet(struct source *source, uint8_t *sheet);
 
 /* The leaf that a sheet of n leaves is asked about. */
 size_t draw_leaf(struct source *source, size_t n);
+
+/* A sheet for a text: mostly whole, with short names and cells of 0. */
+size_t draw_sheet_for_text(struct source *source, uint8_t *sheet);
+
+/* A text for a sheet of n leaves: all bytes that are left, or a drawing with the sheet's names, damaged or not. */
+size_t draw_text(struct source *source, const uint8_t *sheet, size_t sheet_len, size_t n, uint8_t *text);
 
 #endif

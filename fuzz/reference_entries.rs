@@ -11,6 +11,8 @@
 mod chance;
 #[path = "../reference/src/merge.rs"]
 mod merge;
+#[path = "../reference/src/newick.rs"]
+mod newick;
 #[path = "../reference/src/part.rs"]
 mod part;
 #[path = "../reference/src/poll.rs"]

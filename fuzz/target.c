@@ -16,12 +16,12 @@
 
 enum entry {
     CHECK, STANDARDISE, SPLITS, PAIRING, TABLE, GAP, REBUILD, REBUILD_GUIDED, POLL, SHEET_TABLE, SHEET_NAME,
-    REBUILD_SHEET, CHECK_SHEET, ENTRIES
+    REBUILD_SHEET, CHECK_SHEET, EXPORT, IMPORT, ENTRIES
 };
 
 static const char *const entry_name[ENTRIES] = {
     "check", "standardise", "splits", "pairing", "table", "gap", "rebuild", "rebuild_guided", "poll", "sheet_table",
-    "sheet_name", "rebuild_sheet", "check_sheet"
+    "sheet_name", "rebuild_sheet", "check_sheet", "export", "import"
 };
 
 /* The reference's entries take what the archive's take. */
@@ -38,9 +38,12 @@ extern __typeof__(quartree_sheet_table) reference_sheet_table;
 extern __typeof__(quartree_sheet_name) reference_sheet_name;
 extern __typeof__(quartree_rebuild_sheet) reference_rebuild_sheet;
 extern __typeof__(quartree_check_sheet) reference_check_sheet;
+extern __typeof__(quartree_export) reference_export;
+extern __typeof__(quartree_import) reference_import;
 
 /* A call: the numbers it is given, and the buffers it is lent, inputs in the order of its arguments and then the
-   output. Of a sheet, n is what its trailer says and is not an argument. */
+   output; but the text of an import, which may be all bytes that are left, is the last. Of a sheet, n is what its
+   trailer says and is not an argument. */
 struct call {
     enum entry entry;
     size_t n, leaf;
@@ -52,7 +55,7 @@ _Static_assert(sizeof(struct quartree_record) * MOST_RECORDS + GUARD_BYTES <= ME
 _Static_assert(sizeof(int64_t) * MOST_CELLS + GUARD_BYTES <= MEMORY_BYTES, "every output can be lent");
 
 /* How often each entry was answered by each number. */
-enum { NUMBERS = 17 };
+enum { NUMBERS = 20 };
 static unsigned long answered[ENTRIES][NUMBERS];
 
 /* What the fuzzer takes for new besides places in the code: an entry with a number at a class of leaf counts. */
@@ -149,20 +152,50 @@ static void read_poll_call(struct source *source, struct call *call)
     lend_output(source, call, sizeof(uint32_t), result_of(n, QUARTREE_TABLE_CELLS(n)));
 }
 
+/* Lends a sheet. What is returned is its leaf count, or 5 if that is refused. */
+static size_t lend_sheet(struct call *call, const uint8_t *sheet, size_t len)
+{
+    call->n = len < 8 ? 0 : sheet[len - 8] + (size_t)256 * sheet[len - 7];
+    lend_next(call, "sheet", sheet, 1, len);
+    return call->n >= QUARTREE_LEAST_LEAVES && call->n <= QUARTREE_MOST_LEAVES ? call->n : 5;
+}
+
 /* sheet_table, sheet_name, rebuild_sheet, check_sheet */
 static void read_sheet_call(struct source *source, struct call *call)
 {
     static uint8_t sheet[MOST_SHEET_BYTES];
-    size_t len = draw_sheet(source, sheet), n;
-    call->n = len < 8 ? 0 : sheet[len - 8] + (size_t)256 * sheet[len - 7];
-    n = call->n >= QUARTREE_LEAST_LEAVES && call->n <= QUARTREE_MOST_LEAVES ? call->n : 5;
-    lend_next(call, "sheet", sheet, 1, len);
+    size_t len = draw_sheet(source, sheet), n = lend_sheet(call, sheet, len);
     if (call->entry == SHEET_TABLE)
         lend_output(source, call, sizeof(uint32_t), QUARTREE_TABLE_CELLS(n));
     else if (call->entry == REBUILD_SHEET)
         lend_output(source, call, 1, QUARTREE_LISTING_BYTES(n));
     else if (call->entry == SHEET_NAME)
         call->leaf = draw_leaf(source, n);
+}
+
+/* The length of an export with this sheet: a length byte a name stands before the offset, too. */
+static size_t export_bytes(const uint8_t *sheet, size_t len, size_t n)
+{
+    size_t offset = len < 8 ? 0 : sheet[len - 6] + (size_t)256 * sheet[len - 5];
+    return offset > 0 && offset < len ? offset + 2 * (n - 2) : 8;
+}
+
+/* export, import */
+static void read_text_call(struct source *source, struct call *call)
+{
+    static uint8_t sheet[MOST_SHEET_BYTES], text[MOST_TEXT_BYTES];
+    static uint16_t listing[MOST_NUMBERS];
+    size_t sheet_len = draw_sheet_for_text(source, sheet), n = lend_sheet(call, sheet, sheet_len), len;
+    if (call->entry == EXPORT) {
+        draw_listing(source, n, listing);
+        len = damage_listing(source, n, listing);
+        lend_next(call, "listing", listing, sizeof *listing, len);
+        lend_output(source, call, 1, export_bytes(sheet, sheet_len, n));
+    } else {
+        lend_output(source, call, sizeof(uint16_t), QUARTREE_LISTING_NUMBERS(n));
+        len = draw_text(source, sheet, sheet_len, n, text);
+        lend_next(call, "text", text, 1, len);
+    }
 }
 
 static void read_call(struct source *source, struct call *call)
@@ -186,6 +219,10 @@ static void read_call(struct source *source, struct call *call)
     case REBUILD_SHEET:
     case CHECK_SHEET:
         read_sheet_call(source, call);
+        break;
+    case EXPORT:
+    case IMPORT:
+        read_text_call(source, call);
         break;
     default:
         read_listing_call(source, call);
@@ -227,6 +264,10 @@ static uint64_t make_call(const struct call *call, enum taker taker)
         return ASK(sheet_name, LENT(0), call->leaf);
     case REBUILD_SHEET:
         return ASK(rebuild_sheet, LENT(0), LENT(1));
+    case EXPORT:
+        return ASK(export, LENT(0), LENT(1), LENT(2));
+    case IMPORT:
+        return ASK(import, LENT(0), LENT(2), LENT(1));
     default:
         return ASK(check_sheet, LENT(0));
     }

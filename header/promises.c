@@ -4,7 +4,8 @@
    Each call is accepted at its least leaf count, at 5 and at its most, with lengths that the macros say. At 5 leaves
    it is refused in every way that its comment names: by one fault alone, and by that fault with all that are judged
    after it. An accepted call has to write its result and nothing else; a refused one nothing. The tree is a comb: at 5
-   leaves that of the scope's sheet. It is C and C++. The first claim that fails is printed and ends the program. */
+   leaves that of the scope's sheet and text. It is C and C++. The first claim that fails is printed and ends the
+   program. */
 #include "quartree.h"
 #include "quartree.h"
 #include <stdio.h>
@@ -34,6 +35,9 @@ HOLDS(refusal_13, QUARTREE_REFUSED_SHEET_ENDS == 13);
 HOLDS(refusal_14, QUARTREE_REFUSED_SHEET_LENGTH == 14);
 HOLDS(refusal_15, QUARTREE_REFUSED_NAME == 15);
 HOLDS(refusal_16, QUARTREE_REFUSED_SAME_NAME == 16);
+HOLDS(refusal_17, QUARTREE_REFUSED_GRAMMAR == 17);
+HOLDS(refusal_18, QUARTREE_REFUSED_NOT_BINARY == 18);
+HOLDS(refusal_19, QUARTREE_REFUSED_UNMATCHED == 19);
 
 HOLDS(leaves, QUARTREE_LEAST_LEAVES == 3 && QUARTREE_MOST_LEAVES == 128);
 HOLDS(poll_leaves, QUARTREE_POLL_LEAST_LEAVES == 4 && QUARTREE_POLL_MOST_LEAVES == 32);
@@ -43,6 +47,7 @@ HOLDS(listing_bytes, QUARTREE_LISTING_BYTES(3) == 4 && QUARTREE_LISTING_BYTES(12
 HOLDS(table_cells, QUARTREE_TABLE_CELLS(3) == 9 && QUARTREE_TABLE_CELLS(128) == 16384);
 HOLDS(set_bytes, QUARTREE_SET_BYTES == 16);
 HOLDS(split_bytes, QUARTREE_SPLIT_BYTES(3) == 0 && QUARTREE_SPLIT_BYTES(128) == 2000);
+HOLDS(text_bytes, QUARTREE_TEXT_BYTES(3) == 125 && QUARTREE_TEXT_BYTES(128) == 5500 && 128 * 40 + 3 * 128 - 4 == 5500);
 HOLDS(merges, QUARTREE_MERGES(3) == 2 && QUARTREE_MERGES(128) == 127);
 HOLDS(merge_numbers, QUARTREE_MERGE_NUMBERS(3) == 4 && QUARTREE_MERGE_NUMBERS(128) == 254);
 HOLDS(poll_records, QUARTREE_POLL_RECORDS(4) == 1 && QUARTREE_POLL_RECORDS(32) == 35960);
@@ -60,10 +65,10 @@ HOLDS(figures_of_reply, QUARTREE_FIGURE_X(0x12345678905) == 0x1234567 && QUARTRE
 static const char *const words[] = {
     "accepted", "leaf count is outside", "input", "output", "diagonal", "mirror", "no binary tree", "earlier row",
     "named before", "question", "record", "pairing code", "proposal", "51 54", "n(n-1) + 8", "a bad length",
-    "equals an earlier one"
+    "equals an earlier one", "grammar", "three-way top", "each once"
 };
 
-enum { REFUSALS = 16 };
+enum { REFUSALS = 19 };
 
 /* ---- What is lent ------------------------------------------------------------------------------------------------ */
 
@@ -72,9 +77,9 @@ struct lent {
     uint16_t listing[QUARTREE_LISTING_NUMBERS(128) + 1], question[5], merges[QUARTREE_MERGE_NUMBERS(128) + 1];
     uint32_t table[QUARTREE_TABLE_CELLS(128) + 1];
     struct quartree_record records[QUARTREE_POLL_RECORDS(32) + 1];
-    uint8_t sheet[QUARTREE_SHEET_MOST_BYTES + 1];
+    uint8_t sheet[QUARTREE_SHEET_MOST_BYTES + 1], text[QUARTREE_TEXT_BYTES(128) + 1];
     union {
-        uint8_t bytes[QUARTREE_SPLIT_BYTES(128) + 1];
+        uint8_t bytes[QUARTREE_TEXT_BYTES(128) + 1];
         uint16_t numbers[QUARTREE_LISTING_NUMBERS(128) + 1];
         uint32_t cells[QUARTREE_TABLE_CELLS(128) + 1];
         int64_t gaps[QUARTREE_TABLE_CELLS(128) + 1];
@@ -84,11 +89,12 @@ struct lent {
 static struct lent lent, before;
 
 /* The numbers that go with them: leaf count, lengths, room, and the leaf that is asked for. */
-static size_t n, listing_len, question_len, cells, merges_len, count, sheet_len, room, leaf;
+static size_t n, listing_len, question_len, cells, merges_len, count, sheet_len, text_len, room, leaf;
 
 /* The results that are due. No gap is left between a tree and its own table. */
 static uint16_t standard[QUARTREE_LISTING_NUMBERS(128)];
 static uint8_t splits[QUARTREE_SPLIT_BYTES(128)], listing_bytes_due[QUARTREE_LISTING_BYTES(128)];
+static uint8_t text[QUARTREE_TEXT_BYTES(128)];
 static uint32_t table[QUARTREE_TABLE_CELLS(128)];
 static const int64_t gaps[QUARTREE_TABLE_CELLS(128)] = {0};
 
@@ -98,6 +104,7 @@ static const uint8_t five_strains[] = {
     0x00, 0x00, 0x00, 0x00, 0x00, 0x01, 0x00, 0x01, 0x00, 0x03, 0x00, 0x05, 0x00, 0x0A, 0x00, 0x00, 0x00, 0x51, 0x54
 };
 static const uint16_t five_standard[] = {3, 4, 2, 5, 1, 6};
+static const char five_text[] = "(a,b,(c,(d,e)));";
 
 static size_t pairs_of(size_t k) { return k < 2 ? 0 : k * (k - 1) / 2; }
 
@@ -169,6 +176,26 @@ static void fill_sheet(size_t leaves)
     sheet_len = at + 8;
 }
 
+/* The comb's text with the sheet's names: a comma before every leaf but the first, brackets before the first and from
+   leaf 2 to the last but one. */
+static void fill_text(size_t leaves)
+{
+    size_t at = 0, name_len = lent.sheet[0];
+    for (size_t k = 0; k < leaves; k++) {
+        if (k > 0)
+            text[at++] = ',';
+        if (k == 0 || (k >= 2 && k + 1 < leaves))
+            text[at++] = '(';
+        memcpy(text + at, lent.sheet + k * (name_len + 1) + 1, name_len);
+        at += name_len;
+    }
+    for (size_t k = 0; k < leaves - 2; k++)
+        text[at++] = ')';
+    text[at++] = ';';
+    text_len = at;
+    memcpy(lent.text, text, text_len);
+}
+
 /* Everything anew, for so many leaves, with nothing wrong; the outputs hold something. */
 static void fill(size_t leaves)
 {
@@ -177,6 +204,7 @@ static void fill(size_t leaves)
     if (leaves <= QUARTREE_POLL_MOST_LEAVES)
         fill_poll(leaves);
     fill_sheet(leaves);
+    fill_text(leaves);
     lent.question[0] = 0;
     lent.question[1] = (uint16_t)(leaves - 1);
     lent.question[2] = 1;
@@ -220,6 +248,14 @@ static uint64_t rebuild_sheet(void)
 {
     return quartree_rebuild_sheet(lent.sheet, sheet_len, lent.out.bytes, room);
 }
+static uint64_t export_text(void)
+{
+    return quartree_export(lent.sheet, sheet_len, lent.listing, listing_len, lent.out.bytes, room);
+}
+static uint64_t import_text(void)
+{
+    return quartree_import(lent.sheet, sheet_len, lent.text, text_len, lent.out.numbers, room);
+}
 
 /* How many elements a result has. */
 static size_t no_cells(size_t leaves) { return 0 * leaves; }
@@ -227,11 +263,13 @@ static size_t of_listing(size_t leaves) { return QUARTREE_LISTING_NUMBERS(leaves
 static size_t of_splits(size_t leaves) { return QUARTREE_SPLIT_BYTES(leaves); }
 static size_t of_table(size_t leaves) { return QUARTREE_TABLE_CELLS(leaves); }
 static size_t of_bytes(size_t leaves) { return QUARTREE_LISTING_BYTES(leaves); }
+static size_t of_text(size_t leaves) { return leaves * lent.sheet[0] + 3 * leaves - 4; }
 
 /* The figure of an accepted call. Of the question's leaves 0, n-1, 1, n-2 the first is paired with the third. */
 static uint64_t nothing(void) { return 0; }
 static uint64_t third(void) { return 1; }
 static uint64_t leaf_count(void) { return n; }
+static uint64_t length_of_text(void) { return text_len; }
 static uint64_t place_of_last_name(void)
 {
     size_t name_len = lent.sheet[0], place = n * (name_len + 1) - name_len;
@@ -241,7 +279,7 @@ static uint64_t place_of_last_name(void)
 /* What a call takes. */
 enum {
     COUNT = 1, POLL_COUNT = 2, LISTING = 4, QUESTION = 8, TABLE = 16, MERGES = 32, RECORDS = 64, SHEET = 128,
-    LEAF = 256, OUTPUT = 512
+    LEAF = 256, OUTPUT = 512, TEXT = 1024
 };
 
 struct entry {
@@ -249,7 +287,7 @@ struct entry {
     uint64_t (*call)(void);
     unsigned takes;
     size_t least, most;             /* leaf counts */
-    unsigned char refused[8];       /* by these numbers, in this order; 0 ends them */
+    unsigned char refused[10];      /* by these numbers, in this order; 0 ends them */
     uint64_t (*figure)(void);       /* of an accepted call */
     size_t (*result_cells)(size_t); /* what an accepted call writes */
     const void *result;
@@ -272,6 +310,10 @@ static const struct entry entries[] = {
     {"sheet_name", sheet_name, SHEET | LEAF, 3, 128, {13, 1, 14, 15, 16, 9}, place_of_last_name, no_cells, standard, 1},
     {"rebuild_sheet", rebuild_sheet, SHEET | OUTPUT, 3, 128, {13, 1, 14, 3, 15, 16, 6}, nothing, of_bytes,
      listing_bytes_due, 1},
+    {"export", export_text, SHEET | LISTING | OUTPUT, 3, 128, {13, 1, 2, 14, 7, 8, 15, 16, 3}, length_of_text, of_text,
+     text, 1},
+    {"import", import_text, SHEET | TEXT | OUTPUT, 3, 128, {13, 1, 14, 3, 15, 16, 17, 18, 19}, nothing, of_listing,
+     standard, 2},
 };
 enum { ENTRIES = sizeof entries / sizeof *entries };
 
@@ -332,6 +374,28 @@ static void byte_left_over(void)
     offset_11();
 }
 static void name_again(void) { lent.sheet[7] = lent.sheet[3]; }
+/* The text is (a,b,(c,(d,e)));. */
+static void no_text(void) { text_len = 0; }
+static void no_semicolon(void) { text_len--; }
+static void quote_for_a(void) { lent.text[1] = '\''; }
+static void null_for_c(void) { lent.text[6] = '\0'; }
+static void label_for_bracket(void) { lent.text[13] = 'x'; }
+static void one_byte_behind(void) { lent.text[text_len++] = 'x'; }
+static void brackets_128_deep(void)
+{
+    memset(lent.text, '(', 128);
+    text_len = 128;
+}
+static void node_of_three(void) { lent.text[8] = lent.text[12] = ' '; }
+static void node_of_one(void) { lent.text[9] = lent.text[10] = '\t'; }
+static void top_of_four(void) { lent.text[5] = lent.text[13] = '\n'; }
+static void x_for_a(void) { lent.text[1] = 'x'; }
+static void a_again_for_b(void) { lent.text[3] = 'a'; }
+static void no_e(void)
+{
+    memcpy(lent.text, "(a,b,(c,d));", 12);
+    text_len = 12;
+}
 
 struct fault {
     unsigned number;  /* the refusal's */
@@ -339,7 +403,7 @@ struct fault {
     uint64_t figure;
     unsigned in;      /* what has the fault: of those that a call takes */
     void (*make)(void);
-    int last;         /* it is judged after every other fault of a sheet */
+    int alone;        /* it is tried alone: it is judged after every other fault of a sheet, or is the whole text */
 };
 
 static const struct fault faults[] = {
@@ -385,6 +449,19 @@ static const struct fault faults[] = {
     {QUARTREE_REFUSED_NAME, 15, 4, SHEET, name_past_offset, 1},
     {QUARTREE_REFUSED_NAME, 15, 5, SHEET, byte_left_over, 1},
     {QUARTREE_REFUSED_SAME_NAME, 16, 3, SHEET, name_again, 0},
+    {QUARTREE_REFUSED_GRAMMAR, 17, 0, TEXT, no_text, 1},
+    {QUARTREE_REFUSED_GRAMMAR, 17, 15, TEXT, no_semicolon, 0},
+    {QUARTREE_REFUSED_GRAMMAR, 17, 1, TEXT, quote_for_a, 0},
+    {QUARTREE_REFUSED_GRAMMAR, 17, 6, TEXT, null_for_c, 1},
+    {QUARTREE_REFUSED_GRAMMAR, 17, 13, TEXT, label_for_bracket, 1},
+    {QUARTREE_REFUSED_GRAMMAR, 17, 16, TEXT, one_byte_behind, 1},
+    {QUARTREE_REFUSED_GRAMMAR, 17, 127, TEXT, brackets_128_deep, 1},
+    {QUARTREE_REFUSED_NOT_BINARY, 18, 0, TEXT, node_of_three, 0},
+    {QUARTREE_REFUSED_NOT_BINARY, 18, 0, TEXT, node_of_one, 1},
+    {QUARTREE_REFUSED_NOT_BINARY, 18, 0, TEXT, top_of_four, 1},
+    {QUARTREE_REFUSED_UNMATCHED, 19, 0, TEXT, x_for_a, 0},
+    {QUARTREE_REFUSED_UNMATCHED, 19, 0, TEXT, a_again_for_b, 0},
+    {QUARTREE_REFUSED_UNMATCHED, 19, 0, TEXT, no_e, 1},
 };
 enum { FAULTS = sizeof faults / sizeof *faults };
 
@@ -444,7 +521,7 @@ static void make_faults(const struct entry *entry, size_t place)
 {
     for (; entry->refused[place] != 0; place++)
         for (size_t f = 0; f < FAULTS; f++)
-            if (can_have(entry, &faults[f], entry->refused[place]) && !faults[f].last)
+            if (can_have(entry, &faults[f], entry->refused[place]) && !faults[f].alone)
                 faults[f].make();
 }
 
@@ -459,7 +536,7 @@ static unsigned try_faults(const struct entry *entry)
                 faults[f].make();
                 refuse(entry, &faults[f]);
                 met |= 1u << faults[f].number;
-                if (faults[f].last)
+                if (faults[f].alone)
                     continue;
                 fill_for(entry, 5);
                 make_faults(entry, place + 1);
@@ -524,6 +601,8 @@ int main(void)
     claim(sheet_len == sizeof five_strains && memcmp(lent.sheet, five_strains, sheet_len) == 0
               && memcmp(standard, five_standard, sizeof five_standard) == 0,
           "rebuild_sheet", "the sheet is not the scope's", 0);
+    claim(text_len == strlen(five_text) && memcmp(text, five_text, text_len) == 0, "export",
+          "the text is not the scope's", 0);
     for (size_t e = 0; e < ENTRIES; e++) {
         try_sizes(&entries[e], entries[e].least);
         try_sizes(&entries[e], 5);

@@ -1,8 +1,9 @@
 /* quartree.h: count tables and strain trees.
 
-   The part turns a table of quartet counts into the one tree that has it, or refuses; and it goes the other way. Trees
-   have no root and no branch lengths. This header is the manual: the words, the sizes, the reply and the causes of
-   refusal, what a caller owes, what every call promises, and then the calls.
+   The part turns a table of quartet counts into the one tree that has it, or refuses; and it goes the other way. It
+   writes trees as Newick text, and reads them. Trees have no root and no branch lengths. This header is the manual: the
+   words, the sizes, the reply and the causes of refusal, what a caller owes, what every call promises, and then the
+   calls.
 
    Link with libquartree.a. Of the C library it takes memcpy, memmove, memset and memcmp at most.
 
@@ -15,10 +16,10 @@
 #include <stddef.h>
 #include <stdint.h>
 
-#define QUARTREE_VERSION "0.2.1"
+#define QUARTREE_VERSION "0.3.0"
 #define QUARTREE_VERSION_MAJOR 0
-#define QUARTREE_VERSION_MINOR 2
-#define QUARTREE_VERSION_PATCH 1
+#define QUARTREE_VERSION_MINOR 3
+#define QUARTREE_VERSION_PATCH 0
 
 /* ---- Words ----------------------------------------------------------------------------------------------------------
 
@@ -57,7 +58,19 @@
    stops or hyphens (ASCII); the names are those of leaves 0, 1, 2 and so on, no two equal. The cells are those above
    the diagonal, row by row, 16 bits each, low byte first. The trailer is the last 8 bytes: the leaf count (16 bits),
    the offset of the first cell (32 bits), both low byte first, then the bytes 51 54 hexadecimal. Names fill everything
-   before that offset, cells everything from it to the trailer. */
+   before that offset, cells everything from it to the trailer.
+
+   Text. A tree as other programs write it (Newick), as in (a,b,(c,(d,e)));. A drawing is a name or a bracket. A name
+   has one byte or more of those that a sheet's names have. A bracket holds one drawing or more, its parts, with commas
+   between them. A length may follow any name or closing bracket: a colon, and then one or more digits, full stops,
+   signs, e or E. A text is a bracket, called the top, with its length if it has one, and a semicolon. Blanks (bytes 9,
+   10, 13 and 32) may stand anywhere but inside a name or a length, of which the colon is the first byte. Quotes,
+   comments and labels of inner nodes break this grammar, and so does a bracket that nests deeper than 127, the top
+   being 1 deep.
+
+   What a text draws. Every bracket is a node, and an edge joins it to each of its parts; but a top of two parts is no
+   node, and one edge joins its parts. Lengths say nothing. Where every bracket has two parts, or three as the top, and
+   the names are the sheet's, each once, that is one unrooted binary tree on the sheet's leaves. */
 
 /* ---- Sizes ----------------------------------------------------------------------------------------------------------
 
@@ -76,6 +89,7 @@
 #define QUARTREE_LISTING_BYTES(n) (4 * ((size_t)(n) - 2))   /* bytes of a listing, for quartree_rebuild_sheet */
 #define QUARTREE_TABLE_CELLS(n) ((size_t)(n) * (size_t)(n)) /* cells of a table, uint32_t or int64_t */
 #define QUARTREE_SPLIT_BYTES(n) (QUARTREE_SET_BYTES * ((size_t)(n) - 3)) /* bytes of a tree's splits: a set each */
+#define QUARTREE_TEXT_BYTES(n) (43 * (size_t)(n) - 4)       /* bytes of an export, at most: with names of 40 bytes */
 #define QUARTREE_MERGES(n) ((size_t)(n) - 1)                /* merges that join n leaves */
 #define QUARTREE_MERGE_NUMBERS(n) (2 * ((size_t)(n) - 1))   /* uint16_t of a list of merges: two a merge */
 #define QUARTREE_POLL_RECORDS(n) /* records of a poll */ \
@@ -84,9 +98,10 @@
 /* ---- The reply ------------------------------------------------------------------------------------------------------
 
    A call replies with a number and a figure: the refusal's number, or 0 if the call is accepted, in bits 0 to 7, and
-   the figure from bit 8 on: 56 bits, which hold every figure below whole. A refusal's figure is given below; it is 0
-   where nothing comes with the number. The figure of an accepted call is 0 unless its promise names another.
-   quartree_rebuild_sheet alone returns a bare number. */
+   the figure from bit 8 on: 56 bits. They hold every figure below whole, but for an offset of refusal 17 that is not
+   below 2^56: of that they hold the lowest 56 bits. A refusal's figure is given below; it is 0 where nothing comes with
+   the number. The figure of an accepted call is 0 unless its promise names another. quartree_rebuild_sheet alone
+   returns a bare number. */
 
 #define QUARTREE_NUMBER(reply) ((unsigned)((reply) & 255))
 #define QUARTREE_FIGURE(reply) ((uint64_t)(reply) >> 8)
@@ -95,7 +110,8 @@
 #define QUARTREE_FIGURE_X(reply) (QUARTREE_FIGURE(reply) >> 8)
 #define QUARTREE_FIGURE_Y(reply) (QUARTREE_FIGURE(reply) & 255)
 
-/* The causes of refusal. After the semicolon: the figure. Leaves, positions, records and steps count from 0. */
+/* The causes of refusal. After the semicolon: the figure. Leaves, positions, records, steps and offsets count from
+   0. */
 enum quartree_refusal {
     QUARTREE_ACCEPTED = 0,
     QUARTREE_REFUSED_LEAF_COUNT = 1,    /* leaf count outside 3..128 (polls 4..32) */
@@ -117,7 +133,11 @@ enum quartree_refusal {
     QUARTREE_REFUSED_SHEET_LENGTH = 14, /* offset + n(n-1) + 8 is not the sheet's length */
     QUARTREE_REFUSED_NAME = 15,         /* name with a bad length or byte, or past the offset; its leaf. Or names end
                                            before the offset; n */
-    QUARTREE_REFUSED_SAME_NAME = 16     /* name equal to an earlier one; the later leaf */
+    QUARTREE_REFUSED_SAME_NAME = 16,    /* name equal to an earlier one; the later leaf */
+    QUARTREE_REFUSED_GRAMMAR = 17,      /* text breaks the grammar or nests deeper than 127; the offset of the first
+                                           byte that does, or the text's length if it stops early */
+    QUARTREE_REFUSED_NOT_BINARY = 18,   /* bracket of the text has not two parts, nor three as the top */
+    QUARTREE_REFUSED_UNMATCHED = 19     /* name of the text unknown to the sheet, repeated or missing */
 };
 
 /* A text for each refusal's number, and for 0. */
@@ -158,6 +178,12 @@ static inline const char *quartree_refusal_text(unsigned number)
         return "a name has a bad length or byte or runs past the offset, or the names end before the offset";
     case QUARTREE_REFUSED_SAME_NAME:
         return "a name equals an earlier one";
+    case QUARTREE_REFUSED_GRAMMAR:
+        return "the text breaks the grammar, stops early or nests deeper than 127";
+    case QUARTREE_REFUSED_NOT_BINARY:
+        return "a node of the text is not binary, apart from a three-way top";
+    case QUARTREE_REFUSED_UNMATCHED:
+        return "the text's names are not the sheet's, each once";
     default:
         return "no refusal has this number";
     }
@@ -169,7 +195,7 @@ static inline const char *quartree_refusal_text(unsigned number)
 
    - No pointer is null, also where its length is 0.
    - Lengths are true: from each pointer on there are as many elements as its length says, or more. A length counts
-     elements of its pointer's type; room is the length of out.
+     elements of its pointer's type; room is the length of the output.
    - Pointers are aligned for their element type.
    - An output overlaps no input of the same call. Inputs may overlap. An output may hold anything before the call.
    - While a call runs, nobody else writes its inputs, or reads or writes its output.
@@ -179,8 +205,9 @@ static inline const char *quartree_refusal_text(unsigned number)
 
    - Refusals are judged in the order that the call names, and the first that applies is the reply. Nothing else is
      refused. 7 and 8 are judged child by child, 10 and 11 record by record, 15 and 16 name by name; that the names end
-     before the offset comes after all names.
-   - An input's length has to be exact (refusal 2). An output may be longer than the result.
+     before the offset comes after all names. 17, 18 and 19 are each judged of the whole text.
+   - An input's length has to be exact (refusal 2), but that of a text, which may be any. An output may be longer than
+     the result.
    - A refused call leaves every buffer as it was. An accepted call writes its result from the output's first element
      on, and nothing beyond the result. Inputs are never written.
    - Whatever the numbers in the buffers are, the call ends, does not trap, and touches no memory but what it is lent
@@ -293,6 +320,26 @@ uint64_t quartree_sheet_name(const uint8_t *sheet, size_t len, size_t leaf);
    Accepted: the first QUARTREE_LISTING_BYTES(n) bytes of listing are the standard listing of the only tree that has
    the sheet's table, two bytes a number, low byte first. */
 uint32_t quartree_rebuild_sheet(const uint8_t *sheet, size_t sheet_len, uint8_t *listing, size_t listing_len);
+
+/* ---- Texts ----------------------------------------------------------------------------------------------------------
+
+   The leaf count n and the names are a sheet's; its cells play no part. */
+
+/* Writes the text of a listing's tree. The length of the listing, len, has to be QUARTREE_LISTING_NUMBERS(n).
+   Refused, in this order: 13, 1, 2, 14, 7, 8, 15, 16, 3.
+   Accepted: the figure is the length of the text, which is the bytes of all names and 3n-4 more, at most
+   QUARTREE_TEXT_BYTES(n). The first so many bytes of text are a bracket and a semicolon, as in (a,b,(c,(d,e)));. The
+   bracket holds leaf 0's name and the two children of the last node, in the standard listing's order; of these a leaf
+   is its name, and a node a bracket that holds its two children. There is no blank and no length in it, and no 0 byte
+   ends it. quartree_import with the same sheet reads the tree's standard listing from it. */
+uint64_t quartree_export(const uint8_t *sheet, size_t sheet_len, const uint16_t *listing, size_t len,
+                         uint8_t *text, size_t room);
+
+/* Reads the tree that a text draws. The text may have any length, and no 0 byte ends it.
+   Refused, in this order: 13, 1, 14, 3, 15, 16, 17, 18, 19.
+   Accepted: the first QUARTREE_LISTING_NUMBERS(n) numbers of out are the standard listing of the tree. */
+uint64_t quartree_import(const uint8_t *sheet, size_t sheet_len, const uint8_t *text, size_t text_len,
+                         uint16_t *out, size_t room);
 
 #ifdef __cplusplus
 }

@@ -19,6 +19,10 @@ uint64_t real_check_sheet(const uint8_t *sheet, size_t len);
 uint64_t real_sheet_table(const uint8_t *sheet, size_t len, uint32_t *out, size_t room);
 uint64_t real_sheet_name(const uint8_t *sheet, size_t len, size_t leaf);
 uint32_t real_rebuild_sheet(const uint8_t *sheet, size_t sheet_len, uint8_t *listing, size_t listing_len);
+uint64_t real_export(const uint8_t *sheet, size_t sheet_len, const uint16_t *listing, size_t len, uint8_t *text,
+                     size_t room);
+uint64_t real_import(const uint8_t *sheet, size_t sheet_len, const uint8_t *text, size_t text_len, uint16_t *out,
+                     size_t room);
 
 #if FAULT == 1 /* check: the position counted from 1 */
 uint64_t quartree_check(size_t n, const uint16_t *listing, size_t len)
@@ -244,5 +248,136 @@ uint64_t quartree_check_sheet(const uint8_t *sheet, size_t len)
 {
     uint64_t reply = real_check_sheet(sheet, len);
     return NUMBER(reply) == QUARTREE_REFUSED_SAME_NAME ? (uint64_t)sheet[len - 8] << 8 : reply;
+}
+
+#elif FAULT == 29 /* export: the length of the text not told */
+uint64_t quartree_export(const uint8_t *sheet, size_t sheet_len, const uint16_t *listing, size_t len, uint8_t *text,
+                         size_t room)
+{
+    uint64_t reply = real_export(sheet, sheet_len, listing, len, text, room);
+    return NUMBER(reply) == QUARTREE_ACCEPTED ? QUARTREE_ACCEPTED : reply;
+}
+
+#elif FAULT == 30 /* export: a 0 byte behind the text */
+uint64_t quartree_export(const uint8_t *sheet, size_t sheet_len, const uint16_t *listing, size_t len, uint8_t *text,
+                         size_t room)
+{
+    uint64_t reply = real_export(sheet, sheet_len, listing, len, text, room);
+    if (NUMBER(reply) == QUARTREE_ACCEPTED && QUARTREE_FIGURE(reply) < room)
+        text[QUARTREE_FIGURE(reply)] = 0;
+    return reply;
+}
+
+#elif FAULT == 31 /* export: a blank for the semicolon */
+uint64_t quartree_export(const uint8_t *sheet, size_t sheet_len, const uint16_t *listing, size_t len, uint8_t *text,
+                         size_t room)
+{
+    uint64_t reply = real_export(sheet, sheet_len, listing, len, text, room);
+    if (NUMBER(reply) == QUARTREE_ACCEPTED)
+        text[QUARTREE_FIGURE(reply) - 1] = ' ';
+    return reply;
+}
+
+#elif FAULT == 32 /* export: the room in 16 bits */
+uint64_t quartree_export(const uint8_t *sheet, size_t sheet_len, const uint16_t *listing, size_t len, uint8_t *text,
+                         size_t room)
+{
+    return real_export(sheet, sheet_len, listing, len, text, (uint16_t)room);
+}
+
+#elif FAULT == 33 /* export: the length of the listing in 16 bits */
+uint64_t quartree_export(const uint8_t *sheet, size_t sheet_len, const uint16_t *listing, size_t len, uint8_t *text,
+                         size_t room)
+{
+    return real_export(sheet, sheet_len, listing, (uint16_t)len, text, room);
+}
+
+#elif FAULT == 34 /* export: a short output before the rest */
+uint64_t quartree_export(const uint8_t *sheet, size_t sheet_len, const uint16_t *listing, size_t len, uint8_t *text,
+                         size_t room)
+{
+    return room < 8 ? QUARTREE_REFUSED_OUTPUT_ROOM : real_export(sheet, sheet_len, listing, len, text, room);
+}
+
+#elif FAULT == 35 /* import: the offset counted from 1 */
+uint64_t quartree_import(const uint8_t *sheet, size_t sheet_len, const uint8_t *text, size_t text_len, uint16_t *out,
+                         size_t room)
+{
+    uint64_t reply = real_import(sheet, sheet_len, text, text_len, out, room);
+    return NUMBER(reply) == QUARTREE_REFUSED_GRAMMAR ? reply + 256 : reply;
+}
+
+#elif FAULT == 36 /* import: the offset in 16 bits */
+uint64_t quartree_import(const uint8_t *sheet, size_t sheet_len, const uint8_t *text, size_t text_len, uint16_t *out,
+                         size_t room)
+{
+    uint64_t reply = real_import(sheet, sheet_len, text, text_len, out, room);
+    return NUMBER(reply) == QUARTREE_REFUSED_GRAMMAR ? reply & 0xFFFFFF : reply;
+}
+
+#elif FAULT == 37 /* import: the text ends at a 0 byte */
+uint64_t quartree_import(const uint8_t *sheet, size_t sheet_len, const uint8_t *text, size_t text_len, uint16_t *out,
+                         size_t room)
+{
+    size_t end = 0;
+    while (end < text_len && text[end] != 0)
+        end++;
+    return real_import(sheet, sheet_len, text, end, out, room);
+}
+
+#elif FAULT == 38 /* import: the length of the text in 16 bits */
+uint64_t quartree_import(const uint8_t *sheet, size_t sheet_len, const uint8_t *text, size_t text_len, uint16_t *out,
+                         size_t room)
+{
+    return real_import(sheet, sheet_len, text, (uint16_t)text_len, out, room);
+}
+
+#elif FAULT == 39 /* import: a blank at the end of the text refused */
+uint64_t quartree_import(const uint8_t *sheet, size_t sheet_len, const uint8_t *text, size_t text_len, uint16_t *out,
+                         size_t room)
+{
+    uint64_t reply = real_import(sheet, sheet_len, text, text_len, out, room);
+    int blank = NUMBER(reply) == QUARTREE_ACCEPTED && text[text_len - 1] != ';';
+    return blank ? QUARTREE_REFUSED_GRAMMAR + 256 * (uint64_t)(text_len - 1) : reply;
+}
+
+#elif FAULT == 40 /* import: 18 told as 19 */
+uint64_t quartree_import(const uint8_t *sheet, size_t sheet_len, const uint8_t *text, size_t text_len, uint16_t *out,
+                         size_t room)
+{
+    uint64_t reply = real_import(sheet, sheet_len, text, text_len, out, room);
+    return reply == QUARTREE_REFUSED_NOT_BINARY ? QUARTREE_REFUSED_UNMATCHED : reply;
+}
+
+#elif FAULT == 41 /* import: other names let pass */
+uint64_t quartree_import(const uint8_t *sheet, size_t sheet_len, const uint8_t *text, size_t text_len, uint16_t *out,
+                         size_t room)
+{
+    uint64_t reply = real_import(sheet, sheet_len, text, text_len, out, room);
+    return reply == QUARTREE_REFUSED_UNMATCHED ? QUARTREE_ACCEPTED : reply;
+}
+
+#elif FAULT == 42 /* import: writes the output although the text is broken */
+uint64_t quartree_import(const uint8_t *sheet, size_t sheet_len, const uint8_t *text, size_t text_len, uint16_t *out,
+                         size_t room)
+{
+    uint64_t reply = real_import(sheet, sheet_len, text, text_len, out, room);
+    if (NUMBER(reply) == QUARTREE_REFUSED_GRAMMAR)
+        out[0] = 1;
+    return reply;
+}
+
+#elif FAULT == 43 /* import: the last row's children exchanged */
+uint64_t quartree_import(const uint8_t *sheet, size_t sheet_len, const uint8_t *text, size_t text_len, uint16_t *out,
+                         size_t room)
+{
+    uint64_t reply = real_import(sheet, sheet_len, text, text_len, out, room);
+    size_t n = NUMBER(reply) == QUARTREE_ACCEPTED ? sheet[sheet_len - 8] : 0;
+    if (n > 0) {
+        uint16_t last = out[2 * n - 5];
+        out[2 * n - 5] = out[2 * n - 6];
+        out[2 * n - 6] = last;
+    }
+    return reply;
 }
 #endif

@@ -9,7 +9,7 @@ use crate::part::{self, Cell, Lent};
 use crate::poll::{self, Record};
 use crate::refuse::{reply, Answer, Refusal};
 use crate::tree::{self, Tree};
-use crate::{merge, sheet, table};
+use crate::{merge, newick, sheet, table};
 
 /// The operations.
 #[derive(Clone, Copy, Debug, PartialEq, Eq)]
@@ -27,10 +27,12 @@ pub enum Kind {
     SheetTable,
     SheetName,
     RebuildSheet,
+    Export,
+    Import,
 }
 
 impl Kind {
-    pub const ALL: [Kind; 13] = [
+    pub const ALL: [Kind; 15] = [
         Kind::Check,
         Kind::Standardise,
         Kind::Splits,
@@ -44,6 +46,8 @@ impl Kind {
         Kind::SheetTable,
         Kind::SheetName,
         Kind::RebuildSheet,
+        Kind::Export,
+        Kind::Import,
     ];
 
     pub fn name(self) -> &'static str {
@@ -61,6 +65,8 @@ impl Kind {
             Kind::SheetTable => "sheet_table",
             Kind::SheetName => "sheet_name",
             Kind::RebuildSheet => "rebuild_sheet",
+            Kind::Export => "export",
+            Kind::Import => "import",
         }
     }
 
@@ -78,6 +84,8 @@ impl Kind {
             Kind::SheetTable => &[13, 1, 14, 3, 15, 16],
             Kind::SheetName => &[13, 1, 14, 15, 16, 9],
             Kind::RebuildSheet => &[13, 1, 14, 3, 15, 16, 6],
+            Kind::Export => &[13, 1, 2, 14, 7, 8, 15, 16, 3],
+            Kind::Import => &[13, 1, 14, 3, 15, 16, 17, 18, 19],
         }
     }
 }
@@ -98,6 +106,8 @@ pub enum Case {
     SheetTable { sheet: Vec<u8>, room: usize },
     SheetName { sheet: Vec<u8>, leaf: usize },
     RebuildSheet { sheet: Vec<u8>, room: usize },
+    Export { sheet: Vec<u8>, listing: Vec<u16>, room: usize },
+    Import { sheet: Vec<u8>, text: Vec<u8>, room: usize },
 }
 
 /// What part and reference agree on: the reply, and the cells written.
@@ -168,6 +178,8 @@ impl Case {
             Case::SheetTable { .. } => Kind::SheetTable,
             Case::SheetName { .. } => Kind::SheetName,
             Case::RebuildSheet { .. } => Kind::RebuildSheet,
+            Case::Export { .. } => Kind::Export,
+            Case::Import { .. } => Kind::Import,
         }
     }
 
@@ -287,6 +299,28 @@ impl Case {
                 sheet.unchanged()?;
                 settle_number(got, due, &out)
             }
+            Case::Export { sheet, listing, room } => {
+                let due = newick::export(sheet, listing, *room);
+                look_at_export(sheet, listing, &due)?;
+                let mut sheet = Lent::input("sheet", sheet, chance);
+                let mut listing = Lent::input("listing", listing, chance);
+                let mut out = Lent::output("text", *room, chance);
+                let got = part::export(&mut sheet, &mut listing, &mut out);
+                sheet.unchanged()?;
+                listing.unchanged()?;
+                settle_output(got, due.map(|text| (text.len() as u64, text)), &out)
+            }
+            Case::Import { sheet, text, room } => {
+                let due = newick::import(sheet, text, *room);
+                look_at_import(sheet, text, &due)?;
+                let mut sheet = Lent::input("sheet", sheet, chance);
+                let mut text = Lent::input("text", text, chance);
+                let mut out = Lent::output("standard listing", *room, chance);
+                let got = part::import(&mut sheet, &mut text, &mut out);
+                sheet.unchanged()?;
+                text.unchanged()?;
+                settle_output(got, no_number(due), &out)
+            }
         }
     }
 }
@@ -348,4 +382,46 @@ fn look_at_rebuilt_sheet(
     let Ok((n, table)) = sheet::sheet_table(sheet, usize::MAX) else { return Ok(()) };
     let wide = |bytes: &Vec<u8>| bytes.chunks(2).map(|low| u16::from_le_bytes([low[0], low[1]])).collect();
     look_at_rebuilt(n, &table, &due.as_ref().map(wide).map_err(|&refusal| refusal), every, chance)
+}
+
+/// An export is as long as the paper's words make it, and imported it is the exported tree's standard listing.
+fn look_at_export(sheet: &[u8], listing: &[u16], due: &Answer<Vec<u8>>) -> Result<(), String> {
+    let Ok(text) = due else { return Ok(()) };
+    let n = listing.len() / 2 + 2;
+    let names: usize = (0..n).map(|leaf| sheet::sheet_name(sheet, leaf).map_or(0, |name| name.len())).sum();
+    agreed(text.len() == names + 3 * n - 4, "length of an export")?;
+    let standard = tree::standardise(n, listing, listing.len());
+    agreed(newick::import(sheet, text, listing.len()) == standard, "import of an export")
+}
+
+/// How long a text may be of which every completion is tried.
+const TRIED: usize = 400;
+
+/// The listing of an imported text, exported and imported again, is the same. Where the grammar is broken, the bytes up
+/// to there begin a right text, and with one byte more they begin none.
+fn look_at_import(sheet: &[u8], text: &[u8], due: &Answer<Vec<u16>>) -> Result<(), String> {
+    match due {
+        Ok(listing) => {
+            let again = newick::export(sheet, listing, usize::MAX)
+                .and_then(|export| newick::import(sheet, &export, listing.len()));
+            agreed(again == *due, "import of the export of an import")
+        }
+        Err(Refusal::Grammar { offset }) if text.len() <= TRIED => {
+            agreed(begins_right_text(&text[..*offset]), "broken before that byte")?;
+            agreed(*offset == text.len() || !begins_right_text(&text[..offset + 1]), "not broken by that byte")?;
+            agreed(*offset < text.len() || newick::read(text).is_err(), "not broken by stopping")
+        }
+        Err(_) => Ok(()),
+    }
+}
+
+/// Is any text with this beginning right? Whatever is due behind it, one of these is: the rest of a name, a length or a
+/// bracket; then the brackets that are open, and the semicolon.
+fn begins_right_text(beginning: &[u8]) -> bool {
+    let count = |byte: u8| beginning.iter().filter(|&&other| other == byte).count();
+    let closing = vec![b')'; count(b'(').saturating_sub(count(b')'))];
+    let rights = ["", "a", "1", "(a)"].into_iter().flat_map(|first| ["", ";"].map(|last| (first, last)));
+    rights
+        .map(|(first, last)| [beginning, first.as_bytes(), &closing, last.as_bytes()].concat())
+        .any(|text| newick::read(&text).is_ok())
 }

@@ -9,6 +9,7 @@ use crate::merge::finished_list;
 use crate::part::Cell;
 use crate::poll::{records_of, Record};
 use crate::table::{of_tree, pairs_of, put, quartets};
+use crate::texts;
 use crate::tree::{members, single, LeafSet, Tree};
 use std::collections::HashMap;
 
@@ -84,6 +85,18 @@ pub fn any_case(kind: Kind, chance: &mut Chance) -> Case {
             let cells = any_table(n, chance);
             let sheet = lent_sheet(n, cells, chance);
             Case::RebuildSheet { sheet, room: lent_room(4 * (n - 2), chance) }
+        }
+        Kind::Export => {
+            let n = good_count(chance);
+            let sheet = mostly_good_sheet(n, chance);
+            let room = lent_room(texts::export_length(&sheet), chance);
+            Case::Export { sheet, listing: lent_listing(n, chance), room }
+        }
+        Kind::Import => {
+            let n = good_count(chance);
+            let sheet = mostly_good_sheet(n, chance);
+            let text = texts::any_text(&any_tree(n, chance), &sheet, chance);
+            Case::Import { sheet, text, room: lent_room(2 * (n - 2), chance) }
         }
     }
 }
@@ -537,7 +550,7 @@ impl Parts {
     }
 }
 
-const NAME_BYTES: &[u8] = b"ABCDEFGHIJKLMNOPQRSTUVWXYZabcdefghijklmnopqrstuvwxyz0123456789.-";
+pub const NAME_BYTES: &[u8] = b"ABCDEFGHIJKLMNOPQRSTUVWXYZabcdefghijklmnopqrstuvwxyz0123456789.-";
 
 /// Bytes next to those allowed in a name.
 const BAD_BYTES: &[u8] = b"\0 ,/:;@[`{_+~\x7F\x80\xC1\xE1\xFF";
@@ -576,6 +589,15 @@ fn parts(n: usize, table: &[u32], chance: &mut Chance) -> Parts {
 /// A sheet with nothing wrong.
 pub fn good_sheet(n: usize, table: &[u32], chance: &mut Chance) -> Vec<u8> {
     parts(n, table, chance).bytes()
+}
+
+/// A sheet with cells of any value, mostly with nothing wrong.
+fn mostly_good_sheet(n: usize, chance: &mut Chance) -> Vec<u8> {
+    let cells: Vec<u32> = (0..n * n).map(|_| u32::any(chance)).collect();
+    match chance.one_in(3) {
+        true => lent_sheet(n, cells, chance),
+        false => good_sheet(n, &cells, chance),
+    }
 }
 
 fn lent_sheet(n: usize, table: Vec<u32>, chance: &mut Chance) -> Vec<u8> {

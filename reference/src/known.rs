@@ -72,6 +72,9 @@ const PAPER_SHEET: [u8; 38] = [
     0x05, 0x00, 0x0A, 0x00, 0x00, 0x00, 0x51, 0x54,
 ];
 
+/// The export of its tree.
+const P7_TEXT: &[u8] = b"(a,b,(c,(d,e)));";
+
 fn wide<T: Copy + Into<i64>>(cells: &[T]) -> Vec<i64> {
     cells.iter().map(|&cell| cell.into()).collect()
 }
@@ -132,6 +135,9 @@ pub fn known_cases() -> Vec<Known> {
     cases.extend(lengths());
     cases.extend(polls());
     cases.extend(sheets());
+    cases.extend(exports());
+    cases.extend(imports());
+    cases.extend(long_texts());
     cases
 }
 
@@ -274,6 +280,8 @@ fn counts() -> Vec<Known> {
             Case::SheetTable { sheet: trailer(n as u16, 0), room },
             Case::SheetName { sheet: trailer(n as u16, 0), leaf: 0 },
             Case::RebuildSheet { sheet: trailer(n as u16, 0), room },
+            Case::Export { sheet: trailer(n as u16, 0), listing: vec![1; 2 * (n - 2)], room },
+            Case::Import { sheet: trailer(n as u16, 0), text: P7_TEXT.into(), room },
         ];
         known.extend(cases.map(|case| Known { name: "leaf counts 2 and 129", case, due: Due::Refused(1, 0) }));
     }
@@ -312,16 +320,22 @@ fn lengths() -> Vec<Known> {
         Case::Guided { n, table: longer(&table), merges: merges.clone(), room: 6 },
         Case::Guided { n, table: table.clone(), merges: longer(&merges), room: 6 },
         Case::Poll { n, records: longer(&p7_poll()), room: 25 },
+        Case::Export { sheet: PAPER_SHEET.into(), listing: longer(&listing), room: P7_TEXT.len() },
     ];
     let sheets = [
         Case::CheckSheet { sheet: longer(&PAPER_SHEET) },
         Case::SheetTable { sheet: longer(&PAPER_SHEET), room: 25 },
         Case::SheetName { sheet: longer(&PAPER_SHEET), leaf: 4 },
         Case::RebuildSheet { sheet: longer(&PAPER_SHEET), room: 12 },
+        Case::Export { sheet: longer(&PAPER_SHEET), listing: listing.clone(), room: P7_TEXT.len() },
+        Case::Import { sheet: longer(&PAPER_SHEET), text: P7_TEXT.into(), room: 6 },
     ];
     let (rows, cells) = (wide(&listing), wide(&table));
     let bytes: Vec<i64> = rows.iter().flat_map(|&child| [child, 0]).collect();
+    let (export, text) = (Due::Written(P7_TEXT.len() as u64, wide(P7_TEXT)), P7_TEXT.to_vec());
     let rooms = [
+        (Case::Export { sheet: PAPER_SHEET.into(), listing: listing.clone(), room: FAR }, export),
+        (Case::Import { sheet: PAPER_SHEET.into(), text, room: FAR }, Due::Written(0, rows.clone())),
         (Case::Standardise { n, listing: listing.clone(), room: FAR }, Due::Written(0, rows.clone())),
         (Case::Splits { n, listing: listing.clone(), room: FAR }, Due::Written(0, p7_splits())),
         (Case::Table { n, listing: listing.clone(), room: FAR }, Due::Written(0, cells.clone())),
@@ -412,4 +426,206 @@ fn sheets() -> Vec<Known> {
         refused("a name past the offset that would equal an earlier one", name_past_offset(), 15, 2),
         refused("names that end before the offset", byte_left_over(), 15, 3),
     ]
+}
+
+fn exports() -> Vec<Known> {
+    let export = |name, sheet: &[u8], listing: &[u16], room, due| Known {
+        name,
+        case: Case::Export { sheet: sheet.into(), listing: listing.into(), room },
+        due,
+    };
+    let written = |text: &[u8]| Due::Written(text.len() as u64, wide(text));
+    let (equal, bad) = (three([b"a", b"b", b"a"]), three([b"a", b"_", b"a"]));
+    let (room, longest) = (P7_TEXT.len(), 128 * 40 + 3 * 128 - 4);
+    vec![
+        export("the paper's export", &PAPER_SHEET, &P7_LISTING, room, written(P7_TEXT)),
+        export("the same of another listing", &PAPER_SHEET, &[4, 3, 5, 2, 6, 1], room, written(P7_TEXT)),
+        export("export of three leaves", &three([b"a", b"b", b"c"]), &[2, 1], 8, written(b"(a,b,c);")),
+        export("export of a node first", &four(), &[1, 3, 4, 2], 14, written(b"(a0,(b,d),-.);")),
+        export("the longest export", &longest_sheet(), &comb(128), longest, Due::Cells(longest as u64, vec![])),
+        export("export with a byte too few", &PAPER_SHEET, &P7_LISTING, room - 1, Due::Refused(3, 0)),
+        export("the longest with a byte too few", &longest_sheet(), &comb(128), longest - 1, Due::Refused(3, 0)),
+        export("2 before 14", &trailer(3, 9), &[1], 8, Due::Refused(2, 0)),
+        export("14 before 7", &trailer(3, 9), &[0, 0], 8, Due::Refused(14, 0)),
+        export("7 before 15", &bad, &[1, 3], 8, Due::Refused(7, 1)),
+        export("8 before 16", &equal, &[2, 2], 8, Due::Refused(8, 1)),
+        export("15 before 3", &bad, &[1, 2], 0, Due::Refused(15, 1)),
+        export("16 before 3", &equal, &[1, 2], 0, Due::Refused(16, 2)),
+    ]
+}
+
+/// A sheet of four leaves.
+fn four() -> Vec<u8> {
+    sheet(&[b"a0".to_vec(), b"b".to_vec(), b"-.".to_vec(), b"d".to_vec()], &[0; 6])
+}
+
+/// A text with the paper's sheet.
+fn import(name: &'static str, text: impl Into<Vec<u8>>, due: Due) -> Known {
+    Known { name, case: Case::Import { sheet: PAPER_SHEET.into(), text: text.into(), room: 6 }, due }
+}
+
+fn imports() -> Vec<Known> {
+    let same = |text: &'static str| import("a text of P7's tree", text, Due::Written(0, wide(&P7_LISTING)));
+    let broken = |text: &'static str, offset| import("a broken text", text, Due::Refused(17, offset));
+    let refused = |name, text: &'static str, number| import(name, text, Due::Refused(number, 0));
+    let with = |name, sheet: Vec<u8>, text: &[u8], room, due| Known {
+        name,
+        case: Case::Import { sheet, text: text.into(), room },
+        due,
+    };
+    let three_leaves = || Due::Written(0, vec![1, 2]);
+    let (equal, bad) = (three([b"a", b"b", b"a"]), three([b"a", b"_", b"a"]));
+    vec![
+        same("(a,b,(c,(d,e)));"),
+        same("((a,b),(c,(d,e)));"),
+        same("(e,(d,(c,(b,a))));"),
+        same("((d,e),c,(b,a));"),
+        same("(((e,d),c),b,a);"),
+        same(" \t\r\n( a\n,b :1e-5\t, (c:0,(d,e):-1.5E+10 ) :7\r) :. ; \n"),
+        same("(a:e,b:E,(c:--,(d:+,e:.):0):1):2;"),
+        broken("", 0),
+        broken(" \n", 2),
+        broken("a;", 0),
+        broken("  a;", 2),
+        broken(";", 0),
+        broken("();", 1),
+        broken("( );", 2),
+        broken("(,a);", 1),
+        broken("(a,);", 3),
+        broken("(a,,b);", 3),
+        broken("(a b);", 3),
+        broken("(a(b,c));", 2),
+        broken("((a,b)(c,d));", 6),
+        broken("(a: 1);", 3),
+        broken("(a:,b);", 3),
+        broken("(a:1:2);", 4),
+        broken("(a:1 2);", 5),
+        broken("(a:1x);", 4),
+        broken("(:1);", 1),
+        broken("(a,b)x;", 5),
+        broken("((a,b)c,d);", 6),
+        broken("((a,b)1,d);", 6),
+        broken("(a,b)) ;", 5),
+        broken("(a,b),", 5),
+        broken("(a,b):;", 6),
+        broken("('a',b);", 1),
+        broken("(\"a\",b);", 1),
+        broken("(a[x],b);", 2),
+        broken("[x](a,b);", 0),
+        broken("(a_b,c);", 2),
+        broken("(a\x0B,c);", 2),
+        broken("(a\x0C,c);", 2),
+        broken("(a\u{A0},c);", 2),
+        broken("(a\0,b);", 2),
+        broken("(\0a,b);", 1),
+        broken("(a,b)\0;", 5),
+        broken("(a,b,(c,(d,e)));\0", 16),
+        broken("\0", 0),
+        broken("(a,b,(c,(d,e)));;", 16),
+        broken("(a,b,(c,(d,e))); (", 17),
+        broken("(a", 2),
+        broken("(a:", 3),
+        broken("(a:1", 4),
+        broken("(a,b,(c,(d,e)))", 15),
+        broken("(a,b,(c,(d,e))) \n", 17),
+        broken("(a,b,(c,(d,e))):1", 17),
+        refused("a node of one part", "(a);", 18),
+        refused("a node of one part in a node", "((a),b,(c,(d,e)));", 18),
+        refused("a top of one part", "((a,b));", 18),
+        refused("a top of four parts", "(a,b,c,(d,e));", 18),
+        refused("a node of three parts", "((a,b,c),(d,e));", 18),
+        refused("five parts", "(a,b,c,d,e);", 18),
+        refused("a name missing", "(a,b);", 19),
+        refused("the last name missing", "(a,b,(c,d));", 19),
+        refused("the first name missing", "(b,c,(d,e));", 19),
+        refused("a name too many", "(a,b,(c,(d,(e,f))));", 19),
+        refused("a name twice", "(a,b,(c,(d,d)));", 19),
+        refused("a name twice and none missing", "(a,b,(c,(d,(e,a))));", 19),
+        refused("an unknown name", "(a,b,(c,(d,x)));", 19),
+        refused("another letter", "(a,b,(c,(d,E)));", 19),
+        refused("a name that goes on", "(a,b,(c,(d,ee)));", 19),
+        refused("a blank before a colon", "(a :1 , b );", 19),
+        refused("a name of 41 bytes", "(a,bbbbbbbbbbbbbbbbbbbbbbbbbbbbbbbbbbbbbbbbb);", 19),
+        import("a break after a node of three parts", "((x,x,x),y", Due::Refused(17, 10)),
+        import("a break after an unknown name", "(x,y)z", Due::Refused(17, 5)),
+        refused("a node of one part after a name twice", "(a,a,(b));", 18),
+        with("names like lengths", three([b"1e-3", b"-", b"."]), b"(-:-,.:.,1e-3:1e-3);", 2, three_leaves()),
+        with("names that begin others", three([b"a", b"ab", b"abc"]), b"(abc,(ab,a));", 2, three_leaves()),
+        with("a node first", four(), b"((b,d),(-.,a0));", 4, Due::Written(0, vec![1, 3, 4, 2])),
+        with("14 before a short output", trailer(3, 9), b"", 0, Due::Refused(14, 0)),
+        with("a short output before 15", bad.clone(), b"", 1, Due::Refused(3, 0)),
+        with("15 before 17", bad, b"", 2, Due::Refused(15, 1)),
+        with("16 before 17", equal, b"", 2, Due::Refused(16, 2)),
+    ]
+}
+
+/// A text with every two neighbours of these parts in a bracket, and every two of these, until all stand in one.
+fn paired(mut parts: Vec<String>) -> String {
+    while parts.len() > 1 {
+        let pair =
+            |pair: &[String]| if pair.len() == 1 { pair[0].clone() } else { format!("({},{})", pair[0], pair[1]) };
+        parts = parts.chunks(2).map(pair).collect();
+    }
+    parts.concat()
+}
+
+/// The comb of these names with a two-way top: one bracket fewer than names.
+fn comb_text(names: &[String]) -> String {
+    let (last, others) = names.split_last().expect("a name");
+    let opened: String = others.iter().map(|name| format!("({name},")).collect();
+    format!("{opened}{last}{};", ")".repeat(others.len()))
+}
+
+/// Texts that are long, deep or wide: there is no limit but that on the depth, and no counter that wraps.
+fn long_texts() -> Vec<Known> {
+    const MANY: usize = 1_000_000;
+    let blanks = " \n".repeat(MANY / 2);
+    let names: Vec<String> = (0..129).map(|leaf| format!("strain-{leaf:033}")).collect();
+    let longest = |name, text: String, due| Known {
+        name,
+        case: Case::Import { sheet: longest_sheet(), text: text.into(), room: 252 },
+        due,
+    };
+    let same = || Due::Written(0, wide(&P7_LISTING));
+    let (deepest, one_more) = (comb_text(&names[..128]), comb_text(&names));
+    let own_offset = one_more.match_indices('(').nth(127).expect("128 brackets").0 as u64;
+    let a_times = |times| format!("({},(b,(c,(d,e))));", paired(vec!["a".into(); times]));
+    let wide_node = |parts: usize| format!("((a{}),b,(c,(d,e)));", ",a".repeat(parts - 1));
+    vec![
+        longest("a comb 127 deep", deepest.clone(), Due::Written(0, wide(&comb(128)))),
+        longest("a comb 127 deep, with blanks", deepest.replace(',', " , "), Due::Written(0, wide(&comb(128)))),
+        longest("a comb 128 deep", one_more.clone(), Due::Refused(17, own_offset)),
+        longest(
+            "a comb 128 deep that stops there",
+            one_more[..own_offset as usize].into(),
+            Due::Refused(17, own_offset),
+        ),
+        longest("a name too many", format!("({},{}", names[0], &comb_text(&names[1..])[1..]), Due::Refused(19, 0)),
+        import("127 nodes of one part", format!("{}a{};", "(".repeat(127), ")".repeat(127)), Due::Refused(18, 0)),
+        import("128 brackets", format!("{}a{};", "(".repeat(128), ")".repeat(128)), Due::Refused(17, 127)),
+        import("brackets alone", "(".repeat(MANY), Due::Refused(17, 127)),
+        import("as many closing ones", format!("(a{}", ")".repeat(MANY)), Due::Refused(17, 3)),
+        import("127 deep again and again", format!("({});", vec![chain(126); 3].join(",")), Due::Refused(18, 0)),
+        import("128 deep at last", format!("({},{});", chain(126), chain(127)), Due::Refused(17, 381)),
+        import("blanks alone", blanks.clone(), Due::Refused(17, MANY as u64)),
+        import("blanks before", format!("{blanks}(a,b,(c,(d,e)));"), same()),
+        import("blanks behind", format!("(a,b,(c,(d,e)));{blanks}"), same()),
+        import("blanks within", format!("(a,b,({blanks}c,(d,e{blanks}))){blanks};"), same()),
+        import("a break behind blanks", format!("{blanks}(a,b,(c,(d,e)))){blanks}"), Due::Refused(17, 1_000_015)),
+        import("no semicolon behind blanks", format!("(a,b,(c,(d,e))){blanks}"), Due::Refused(17, 1_000_015)),
+        import("a long length", format!("(a,b:{},(c,(d,e)));", "1".repeat(MANY)), same()),
+        import("a long name", format!("(a,b,(c,(d,{})));", "e".repeat(MANY)), Due::Refused(19, 0)),
+        import("a million parts", format!("(a{});", ",a".repeat(MANY - 1)), Due::Refused(18, 0)),
+        import("a million parts and a break", format!("(a{},);", ",a".repeat(MANY - 1)), Due::Refused(17, 2_000_001)),
+        import("256 parts and two", wide_node(258), Due::Refused(18, 0)),
+        import("65,536 parts and two", wide_node(65_538), Due::Refused(18, 0)),
+        import("256 names and one", a_times(257), Due::Refused(19, 0)),
+        import("65,536 names and one", a_times(65_537), Due::Refused(19, 0)),
+        import("names and NUL bytes", format!("({}\0", "a,".repeat(MANY)), Due::Refused(17, 2_000_001)),
+    ]
+}
+
+/// A name in so many brackets of one part.
+fn chain(brackets: usize) -> String {
+    format!("{}a{}", "(".repeat(brackets), ")".repeat(brackets))
 }

@@ -1,8 +1,9 @@
 //! The reference: another program, written from the paper alone, whose results are compared with the part's.
 //!
 //! `reference [N [SEED]]` compares, in this order: the paper's own cases; every tree of 3 to 6 leaves, and one of every
-//! shape of 32, 127 and 128; every listing, question, list of proposals and poll of very few; and N rounds (20,000 if not
-//! given) from SEED on (1 if not given), each with one case of every kind. It also tries demand 3 on the reference's own
+//! shape of 32, 127 and 128; every listing, question, list of proposals and poll of very few, every text of up to six
+//! bytes and every text close to a right one; and N rounds (20,000 if not given) from SEED on (1 if not given), each
+//! with one case of every kind. It also tries demand 3 on the reference's own
 //! merging, over every finished list of small tables. The first difference stops it.
 
 mod cases;
@@ -11,6 +12,7 @@ mod draw;
 mod every;
 mod known;
 mod merge;
+mod newick;
 mod operations;
 mod part;
 mod poll;
@@ -18,6 +20,7 @@ mod refuse;
 mod sheet;
 mod small;
 mod table;
+mod texts;
 mod tree;
 mod watch;
 
@@ -157,12 +160,14 @@ impl Comparison {
         Ok(())
     }
 
-    /// Every listing, question, list of proposals and poll of few leaves, the bad ones too.
+    /// Every listing, question, list of proposals and poll of few leaves, and every short text, the bad ones too.
     fn every_input(&mut self) -> Result<(), String> {
         self.put_all("every listing of few leaves", small::every_listing())?;
         self.put_all("every question of few leaves", small::every_question())?;
         self.put_all("every list of proposals of few leaves", small::every_proposals())?;
-        self.put_all("every poll of few leaves", small::every_poll())
+        self.put_all("every poll of few leaves", small::every_poll())?;
+        self.put_all("every text of up to six bytes", small::every_text())?;
+        self.put_all("every text that is two changes or fewer from a right one", small::every_near_text())
     }
 
     fn put_all(&mut self, origin: &str, cases: impl Iterator<Item = Case>) -> Result<(), String> {

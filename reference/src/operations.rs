@@ -4,6 +4,7 @@ use crate::cases::Case;
 use crate::chance::Chance;
 use crate::draw;
 use crate::table;
+use crate::texts;
 use crate::tree::Tree;
 
 /// How many questions a tree of many leaves is asked.
@@ -43,6 +44,11 @@ pub fn cases_of_tree(tree: &Tree, chance: &mut Chance) -> Vec<Case> {
     cases.extend((0..5).map(|_| {
         let merges = draw::any_merges(n, &table, chance);
         Case::Guided { n, table: table.clone(), merges, room: children }
+    }));
+    cases.push(Case::Export { sheet: sheet.clone(), listing: listing(chance), room: texts::export_length(&sheet) });
+    cases.extend((0..5).map(|_| {
+        let text = texts::right_text(tree, &sheet, chance);
+        Case::Import { sheet: sheet.clone(), text, room: children }
     }));
     cases.extend([
         Case::Rebuild { n, table, room: children },

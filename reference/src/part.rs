@@ -45,6 +45,22 @@ unsafe extern "C" {
     fn quartree_sheet_table(sheet: *const u8, len: usize, out: *mut u32, room: usize) -> u64;
     fn quartree_sheet_name(sheet: *const u8, len: usize, leaf: usize) -> u64;
     fn quartree_rebuild_sheet(sheet: *const u8, sheet_len: usize, listing: *mut u8, listing_len: usize) -> u32;
+    fn quartree_export(
+        sheet: *const u8,
+        sheet_len: usize,
+        listing: *const u16,
+        len: usize,
+        text: *mut u8,
+        room: usize,
+    ) -> u64;
+    fn quartree_import(
+        sheet: *const u8,
+        sheet_len: usize,
+        text: *const u8,
+        text_len: usize,
+        out: *mut u16,
+        room: usize,
+    ) -> u64;
 }
 
 /// How many cells a guard has at least.
@@ -195,13 +211,23 @@ pub fn rebuild_sheet(sheet: &mut Lent<u8>, listing: &mut Lent<u8>) -> u64 {
     u64::from(unsafe { quartree_rebuild_sheet(sheet.pointer(), sheet.len(), listing.pointer(), listing.len()) })
 }
 
+pub fn export(sheet: &mut Lent<u8>, listing: &mut Lent<u16>, text: &mut Lent<u8>) -> u64 {
+    let (bytes, children) = (sheet.len(), listing.len());
+    unsafe { quartree_export(sheet.pointer(), bytes, listing.pointer(), children, text.pointer(), text.len()) }
+}
+
+pub fn import(sheet: &mut Lent<u8>, text: &mut Lent<u8>, out: &mut Lent<u16>) -> u64 {
+    let (bytes, text_bytes) = (sheet.len(), text.len());
+    unsafe { quartree_import(sheet.pointer(), bytes, text.pointer(), text_bytes, out.pointer(), out.len()) }
+}
+
 /// The entries made of the reference's own operations.
 #[cfg(own)]
 mod own {
     use crate::chance::Chance;
     use crate::poll::Record;
     use crate::refuse::{reply, Answer};
-    use crate::{merge, poll, sheet, table, tree};
+    use crate::{merge, newick, poll, sheet, table, tree};
     use std::slice::{from_raw_parts, from_raw_parts_mut};
 
     /// Writes an accepted result to the beginning of the output.
@@ -354,5 +380,33 @@ mod own {
         let sheet = unsafe { from_raw_parts(sheet, sheet_len) };
         let answer = sheet::rebuild_sheet(sheet, listing_len, &mut own_choice());
         unsafe { give(answer, listing, listing_len) as u8 }.into()
+    }
+
+    #[no_mangle]
+    pub unsafe extern "C" fn quartree_export(
+        sheet: *const u8,
+        sheet_len: usize,
+        listing: *const u16,
+        len: usize,
+        text: *mut u8,
+        room: usize,
+    ) -> u64 {
+        let (sheet, listing) = unsafe { (from_raw_parts(sheet, sheet_len), from_raw_parts(listing, len)) };
+        let answer = newick::export(sheet, listing, room);
+        let bytes = answer.as_ref().map_or(0, |text| text.len() as u64);
+        unsafe { give(answer, text, room) | bytes << 8 }
+    }
+
+    #[no_mangle]
+    pub unsafe extern "C" fn quartree_import(
+        sheet: *const u8,
+        sheet_len: usize,
+        text: *const u8,
+        text_len: usize,
+        out: *mut u16,
+        room: usize,
+    ) -> u64 {
+        let (sheet, text) = unsafe { (from_raw_parts(sheet, sheet_len), from_raw_parts(text, text_len)) };
+        unsafe { give(newick::import(sheet, text, room), out, room) }
     }
 }

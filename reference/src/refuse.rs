@@ -2,7 +2,8 @@
 //!
 //! Sizes go first: 13, 1, 2, 14, 3. Then listings, child by child, 7 before 8; then 4 for the whole diagonal, then 5;
 //! records one by one, 10 before 11; names one by one, 15 before 16, and names end before the offset last; then 9;
-//! then 12 or 6. Every operation below judges in this order, by `?` on one judgement after the other.
+//! then 12 or 6. Of texts 17, then 18, then 19 come last; only export judges 3 after all else. Every operation below
+//! judges in this order, by `?` on one judgement after the other.
 
 /// Why a call is refused. Positions, records, steps and leaves count from 0.
 #[derive(Clone, Copy, Debug, PartialEq, Eq)]
@@ -39,6 +40,13 @@ pub enum Refusal {
     Name { number: usize },
     /// 16: name equal to an earlier one, with the later leaf.
     NameAgain { leaf: usize },
+    /// 17: text breaks the grammar or nests too deep, with the first such byte's offset, or the text's length when it
+    /// stops early.
+    Grammar { offset: usize },
+    /// 18: node not binary apart from a three-way top.
+    NotBinary,
+    /// 19: name of the text unknown, repeated or missing.
+    Unmatched,
 }
 
 /// A result, or the cause of refusal.
@@ -63,6 +71,9 @@ impl Refusal {
             Refusal::Offset => 14,
             Refusal::Name { .. } => 15,
             Refusal::NameAgain { .. } => 16,
+            Refusal::Grammar { .. } => 17,
+            Refusal::NotBinary => 18,
+            Refusal::Unmatched => 19,
         }
     }
 
@@ -70,13 +81,14 @@ impl Refusal {
     pub fn figure(self) -> u64 {
         let figure = match self {
             Refusal::LeafCount | Refusal::InputLength | Refusal::OutputShort => 0,
-            Refusal::NoTree | Refusal::Sheet | Refusal::Offset => 0,
+            Refusal::NoTree | Refusal::Sheet | Refusal::Offset | Refusal::NotBinary | Refusal::Unmatched => 0,
             Refusal::Diagonal { leaf } | Refusal::NameAgain { leaf } => leaf,
             Refusal::Halves { i, j } => 256 * i + j,
             Refusal::Child { position } | Refusal::ChildAgain { position } | Refusal::Question { position } => position,
             Refusal::RecordLeaves { record } | Refusal::RecordCode { record } => record,
             Refusal::Proposal { step } => step,
             Refusal::Name { number } => number,
+            Refusal::Grammar { offset } => offset,
         };
         figure as u64
     }

@@ -26,18 +26,28 @@ fn number(bytes: &[u8]) -> u64 {
     bytes.iter().rev().fold(0, |high, &byte| high << 8 | u64::from(byte))
 }
 
-/// The sizes of a sheet: 13, 1, 14.
-pub fn judge_trailer(sheet: &[u8]) -> Answer<Figures> {
+/// A sheet's length and ending, and the leaf count: 13, 1.
+pub fn judge_ends(sheet: &[u8]) -> Answer<Figures> {
     judge((8..=LONGEST).contains(&sheet.len()) && sheet.ends_with(&[0x51, 0x54]), Refusal::Sheet)?;
     let trailer = &sheet[sheet.len() - 8..];
     let n = number(&trailer[..2]) as usize;
     judge_leaf_count(n)?;
-    let offset = number(&trailer[2..6]);
-    judge(offset + (n * (n - 1)) as u64 + 8 == sheet.len() as u64, Refusal::Offset)?;
-    Ok(Figures { n, offset: offset as usize })
+    Ok(Figures { n, offset: number(&trailer[2..6]) as usize })
 }
 
-fn fits_in_name(byte: u8) -> bool {
+/// The offset: 14.
+pub fn judge_offset(sheet: &[u8], Figures { n, offset }: Figures) -> Answer<()> {
+    judge(offset + n * (n - 1) + 8 == sheet.len(), Refusal::Offset)
+}
+
+/// The sizes of a sheet: 13, 1, 14.
+pub fn judge_trailer(sheet: &[u8]) -> Answer<Figures> {
+    let figures = judge_ends(sheet)?;
+    judge_offset(sheet, figures)?;
+    Ok(figures)
+}
+
+pub fn fits_in_name(byte: u8) -> bool {
     byte.is_ascii_alphanumeric() || byte == b'.' || byte == b'-'
 }
 

@@ -1,9 +1,10 @@
-//! Everything of few leaves: each listing, question, list of proposals and poll, the bad ones too.
+//! Everything of few leaves: each listing, question, list of proposals and poll, and each short text, the bad ones too.
 
 use crate::cases::Case;
 use crate::poll::Record;
 use crate::table;
 use crate::tree::Tree;
+use std::collections::BTreeSet;
 
 /// Every list of so many numbers from 0 to most.
 fn every_list(length: usize, most: usize) -> impl Iterator<Item = Vec<u16>> {
@@ -53,4 +54,45 @@ pub fn every_poll() -> impl Iterator<Item = Case> {
             Case::Poll { n, records: quartets.iter().zip(codes).map(record).collect(), room: n * n }
         })
     })
+}
+
+/// What short texts are made of.
+const TEXT_BYTES: [u8; 8] = *b"(),;: a1";
+
+/// A sheet of three leaves with the names a, 1 and a1.
+fn sheet_of_three() -> Vec<u8> {
+    b"\x01a\x011\x02a1\0\0\0\0\0\0\x03\0\x07\0\0\0QT".to_vec()
+}
+
+fn import(text: Vec<u8>) -> Case {
+    Case::Import { sheet: sheet_of_three(), text, room: 2 }
+}
+
+/// Every text of up to six of these bytes.
+pub fn every_text() -> impl Iterator<Item = Case> {
+    let text = |places: Vec<u16>| places.into_iter().map(|place| TEXT_BYTES[usize::from(place)]).collect();
+    (0..=6).flat_map(move |length| every_list(length, TEXT_BYTES.len() - 1).map(text)).map(import)
+}
+
+/// A text with one of these bytes put in anywhere or in any place of another, or with a byte left out.
+fn changed(text: &[u8]) -> Vec<Vec<u8>> {
+    let mut changed = Vec::new();
+    for place in 0..=text.len() {
+        let (before, behind) = text.split_at(place);
+        changed.extend(TEXT_BYTES.map(|byte| [before, &[byte], behind].concat()));
+        if let Some((_, behind)) = behind.split_first() {
+            changed.push([before, behind].concat());
+            changed.extend(TEXT_BYTES.map(|byte| [before, &[byte], behind].concat()));
+        }
+    }
+    changed
+}
+
+/// Every text that one or two such changes make of a right one, whose top has three parts, or two of which one is a
+/// node.
+pub fn every_near_text() -> impl Iterator<Item = Case> {
+    let right: [&[u8]; 2] = [b"(a,1,a1);", b"(a1,(1,a));"];
+    let near: BTreeSet<Vec<u8>> =
+        right.iter().flat_map(|text| changed(text)).flat_map(|text| [changed(&text), vec![text]].concat()).collect();
+    near.into_iter().map(import)
 }

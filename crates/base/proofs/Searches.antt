@@ -44,7 +44,7 @@ module _ {A : Type 0} (test : A → Bool) (n : ℕ) (f : ℕ → A) where
   first-found k l t h = find-past k (omega arith) h ∙ find-here k l t
 
 module _ {A : Type 0} (f : A → Bool) (d : A) where
-  any-at : (l : List A) (k : ℕ) → k < length l → f (getD l k d) ≡ true → any-in f l ≡ true
+  pub any-at : (l : List A) (k : ℕ) → k < length l → f (getD l k d) ≡ true → any-in f l ≡ true
   unfolding any-in
   any-at [] k h t = absurd (omega arith)
   any-at (x ∷ l) zero h t = or-left (f x) _ t

@@ -1,5 +1,5 @@
 -- Numbers in bytes: written and read, they are the same; and as code reads them, byte by byte at a place.
-use mathlib.Core.Path.{_≡_, refl, ap, _∙_}
+use mathlib.Core.Path.{_≡_, refl, ap}
 use mathlib.Core.List.{List, [], _∷_}
 use Prim.Native.Nat.{ℕ, zero, suc, _+_, _*_, _/_, _%_, _^_, _≤_, _<_}
 use native.Mathlib.Numerals.{add-one}
@@ -70,3 +70,23 @@ unfolding number
 number-four S a =
     let e : suc (suc a) ≡ a + 2 = omega arith in
     rw (number-more S 3 a, number-more S 2 (suc a), e, number-two S a, add-one a) (omega arith)
+
+-- eight as four and four
+pub number-eight :
+    (S : List ℕ) (a : ℕ)
+    → number (take 8 (drop a S)) ≡ number (take 4 (drop a S)) + 4294967296 * number (take 4 (drop (a + 4) S))
+unfolding number
+number-eight S a =
+    let e : suc (suc (suc (suc a))) ≡ a + 4 = omega arith in
+    rw (
+      number-more S 7 a,
+      number-more S 6 (suc a),
+      number-more S 5 (suc (suc a)),
+      number-more S 4 (suc (suc (suc a))),
+      e,
+      number-more S 3 a,
+      number-more S 2 (suc a),
+      number-more S 1 (suc (suc a)),
+      number-more S 0 (suc (suc (suc a))),
+    )
+    (omega arith)

@@ -95,6 +95,16 @@ pub fn listing_numbers(n: usize) -> usize
     numbers_due(n, 2, 2)
 }
 
+// How many rows a listing of n leaves has; 0 where there are not two leaves.
+pub fn rows_of(n: usize) -> usize
+    ensures { λ r. ⌜ r ≡ n - 2 ⌝ }
+{
+    if n < 2 {
+        return 0;
+    }
+    n - 2
+}
+
 // How many bytes the splits of a tree of n leaves take, a leaf set each.
 pub fn split_bytes(n: usize) -> usize
     ensures { λ r. ⌜ (IsLeafCount n → r ≡ set-bytes * (n - 3)) ⌝ }

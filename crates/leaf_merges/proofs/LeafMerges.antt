@@ -5,11 +5,10 @@ use mathlib.Core.Logic.{_≢_, inl, inr}
 use mathlib.Core.Bool.{true, false, _||_}
 use mathlib.Core.List.{List, [], _∷_, _++_}
 use Prim.Native.Nat.{ℕ, suc, _+_, _*_, _≤_, _<_}
-use native.Mathlib.Numerals.{add-one}
 use native.Mathlib.Omega.{arith}
 use native.Mathlib.Decide.{decLt, ℕ-discrete}
 use lib.ListN.{length, getD, set, take, replicate, length-set}
-use lib.Seq.{length-take-le, append-snoc, take-suc-set, getD-set-same, getD-set-other}
+use lib.Seq.{length-take-le, getD-set-same, getD-set-other}
 use Rattle.base.specs.Lists.{filled}
 use Rattle.base.proofs.Bools.{bool?, never, is-false, or-left, or-none, or-neither}
 use Rattle.limits.specs.Limits.{most-leaves}
@@ -33,7 +32,7 @@ use Rattle.state_arrays.specs.inner.StateArrays.{HoldsState}
 use Rattle.leaf_merges.specs.inner.LeafMerges.{UnusedNumber, Listed, Current, MergingLeaf, LeavesMerged}
 use Rattle.state_arrays.proofs.StateArrays.{is-least, fits-eligible, eligible-fits, fair, two-merges, still}
 use Rattle.state_arrays.proofs.StateArrays.{holds-step, filled-own, filled-long, holds-start}
-use Rattle.leaf_merges.proofs.AddedRows.{row-kept, node-unused, still-unused, subtree-at-new, subtree-at-old}
+use Rattle.trees.proofs.AddedRows.{row-kept, node-unused, still-unused, subtree-at-new, subtree-at-old, row-stored}
 
 -- The subtrees labelled i and k, 0 < i < k, which are to be merged.
 module _ {n s : ℕ} {S : State} (w : WellFormed n S) {label m sizes names rows : List ℕ} {r : ℕ}
@@ -85,21 +84,12 @@ module _ {n s : ℕ} {S : State} (w : WellFormed n S) {label m sizes names rows 
     abbrev names′ : List ℕ
     names′ = set names i (n + r)
 
-    abbrev rows₁ : List ℕ
-    rows₁ = set rows (2 * r) a
-
     abbrev rows′ : List ℕ
-    rows′ = set rows₁ (2 * r + 1) b
+    rows′ = set (set rows (2 * r) a) (2 * r + 1) b
 
     -- the rows written are the old ones and the new one
     added : take (2 * (r + 1)) rows′ ≡ old ++ (a ∷ b ∷ [])
-    added =
-        let next : 2 * (r + 1) ≡ suc (suc (2 * r)) = omega arith in
-        let inside : suc (2 * r) < length rows₁ = omega (arith, length-set rows (2 * r) a, l .rows-long, row-room) in
-        rw (next, add-one (2 * r))
-        (take-suc-set rows₁ (suc (2 * r)) b inside
-        ∙ rw (take-suc-set rows (2 * r) a (omega (arith, l .rows-long, row-room)))
-        (append-snoc old a (b ∷ [])))
+    added = row-stored rows r a b (omega (arith, l .rows-long, row-room))
 
     new-node : subtree-at n (old ++ (a ∷ b ∷ [])) (n + r) ≡ (step S i k) .tree i
     new-node =
@@ -132,7 +122,7 @@ module _ {n s : ℕ} {S : State} (w : WellFormed n S) {label m sizes names rows 
       pub listed-step : Listed n label′ names′ rows′ (r + 1) (step S i k)
       listed-step = record {
         names-long = length-set names i (n + r) ∙ l .names-long;
-        rows-long = length-set rows₁ (2 * r + 1) b ∙ length-set rows (2 * r) a ∙ l .rows-long;
+        rows-long = length-set (set rows (2 * r) a) (2 * r + 1) b ∙ length-set rows (2 * r) a ∙ l .rows-long;
         kept =
             let apart-names = differ i k (e .left) (e .right) oi ok name-i name-k (omega arith) in
             rw added (row-kept n r old long a b (l .kept) (name-i .0) (name-k .0) apart-names);

@@ -1,2 +1,1 @@
-mod AddedRows
 pub mod LeafMerges

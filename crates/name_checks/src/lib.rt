@@ -1,19 +1,28 @@
 // The names of a sheet: whether each is good and equals no earlier one (15 and 16).
+use limits::MOST_LEAVES;
+use name_index::BUCKETS;
+use name_index::HASHES;
+use name_index::hash_byte;
+use name_index::repeats;
 use numbers::index_of_u8;
 use refusals::Outcome;
 use refusals::Refusal;
 ghost use mathlib.Core.Path.{_≡_};
+ghost use mathlib.Core.Option.{none};
 ghost use Prim.Native.Nat.{_+_, _≤_};
 ghost use lib.ListN.{length, take, drop};
 ghost use Rattle.base.specs.Lists.{all-in};
+ghost use Rattle.limits.specs.Limits.{most-leaves};
 ghost use Rattle.refusals.specs.Refusals.{outcome-of};
-ghost use Rattle.sheet_rules.specs.Sheets.{name-at, next-name, name-start, name-byte, same};
-ghost use Rattle.sheet_rules.specs.Operations.{good-at, repeated, names-refusal};
+ghost use Rattle.sheet_rules.specs.Sheets.{name-at, next-name, name-byte, longest-sheet};
+ghost use Rattle.sheet_rules.specs.Operations.{good-at, names-refusal};
+ghost use Rattle.name_index.specs.inner.Hashes.{hash-where};
+ghost use Rattle.name_index.specs.inner.Indexes.{Indexes};
 
 pub const LONGEST_NAME: usize = 40;
 
 // A byte that a name may have: a letter, a digit, a full stop or a hyphen (ASCII).
-fn is_name_byte(x: u8) -> bool
+pub fn is_name_byte(x: u8) -> bool
     ensures { λ r. ⌜ r ≡ name-byte x ⌝ }
 {
     match x {
@@ -22,56 +31,46 @@ fn is_name_byte(x: u8) -> bool
     }
 }
 
-// So many bytes from a place on are all bytes that a name may have.
-fn are_name_bytes(sheet: &[u8], at: usize, many: usize) -> bool
+// The hash of so many bytes from a place on; `HASHES` where a name may not have one of them.
+fn bytes_hash(sheet: &[u8], at: usize, many: usize) -> u64
     requires { ⌜ at + many ≤ length (now sheet) ⌝ }
-    ensures { λ r. ⌜ r ≡ all-in name-byte (take many (drop at (now (sheet .entry)))) ⌝ }
+    ensures { λ r. ⌜ r ≡ hash-where (all-in name-byte (take many (drop at (now (sheet .entry)))))
+        (take many (drop at (now (sheet .entry)))) ⌝ }
 {
+    let mut h: u64 = 0;
     let mut k: usize = 0;
     while k < many {
-        if !is_name_byte(sheet[at + k]) {
-            return false;
+        let x = sheet[at + k];
+        if !is_name_byte(x) {
+            return HASHES;
         }
+        h = hash_byte(h, x);
         k += 1;
     }
-    true
+    h
 }
 
-// So many bytes from one place on and from another are the same.
-fn same_bytes(sheet: &[u8], a: usize, b: usize, many: usize) -> bool
-    requires { ⌜ (a + many ≤ length (now sheet)) × (b + many ≤ length (now sheet)) ⌝ }
-    ensures { λ r. ⌜ r ≡ same (take many (drop a (now (sheet .entry)))) (take many (drop b (now (sheet .entry)))) ⌝ }
-{
-    let mut k: usize = 0;
-    while k < many {
-        if sheet[a + k] != sheet[b + k] {
-            return false;
-        }
-        k += 1;
-    }
-    true
-}
-
-// The name that starts at a place is good: it begins before the offset and ends at or before it, and is a name.
-fn good_name(sheet: &[u8], offset: usize, at: usize) -> bool
+// The hash of the name that starts at a place; `HASHES` where it is not good. A good name begins before the offset and
+// ends at or before it, and is a name.
+fn name_hash(sheet: &[u8], offset: usize, at: usize) -> u64
     requires { ⌜ offset ≤ length (now sheet) ⌝ }
-    ensures { λ r. ⌜ r ≡ good-at (now (sheet .entry)) offset at ⌝ }
+    ensures { λ r. ⌜ r ≡ hash-where (good-at (now (sheet .entry)) offset at) (name-at (now (sheet .entry)) at) ⌝ }
 {
     if offset <= at {
-        return false;
+        return HASHES;
     }
     let many = index_of_u8(sheet[at]);
     let from = at + 1;
     if offset - from < many {
-        return false;
+        return HASHES;
     }
     if many == 0 {
-        return false;
+        return HASHES;
     }
     if LONGEST_NAME < many {
-        return false;
+        return HASHES;
     }
-    are_name_bytes(sheet, from, many)
+    bytes_hash(sheet, from, many)
 }
 
 // Where the name after this one starts.
@@ -82,47 +81,30 @@ fn next_name(sheet: &[u8], at: usize) -> usize
     at + 1 + index_of_u8(sheet[at])
 }
 
-// The names that start at two places are equal.
-fn same_names(sheet: &[u8], p: usize, q: usize) -> bool
-    requires { ⌜ (next-name (now sheet) p ≤ length (now sheet)) × (next-name (now sheet) q ≤ length (now sheet)) ⌝ }
-    ensures { λ r. ⌜ r ≡ same (name-at (now (sheet .entry)) p) (name-at (now (sheet .entry)) q) ⌝ }
-{
-    let many = index_of_u8(sheet[p]);
-    if many != index_of_u8(sheet[q]) {
-        return false;
-    }
-    same_bytes(sheet, p + 1, q + 1, many)
-}
-
-// The name of leaf i, which starts at a place, equals an earlier one.
-fn repeats(sheet: &[u8], i: usize, at: usize) -> bool
-    requires { ⌜ (at ≡ name-start (now sheet) i) × (next-name (now sheet) at ≤ length (now sheet)) ⌝ }
-    ensures { λ r. ⌜ r ≡ repeated (now (sheet .entry)) i ⌝ }
-{
-    let mut k: usize = 0;
-    let mut p: usize = 0;
-    while k < i {
-        if same_names(sheet, at, p) {
-            return true;
-        }
-        p = next_name(sheet, p);
-        k += 1;
-    }
-    false
-}
-
-// The names one by one, each 15 before 16; then 15 with n where they end before the offset.
-pub fn judge_names(sheet: &[u8], n: usize, offset: usize) -> Outcome
-    requires { ⌜ offset ≤ length (now sheet) ⌝ }
-    ensures { λ r. ⌜ r ≡ outcome-of (names-refusal (now (sheet .entry)) n offset) ⌝ }
+// The names one by one, each 15 before 16; then 15 with n where they end before the offset. The index of no names is
+// lent, and where nothing is refused it is the index of all names. For the crates above.
+pub fn judge_names(
+    sheet: &[u8],
+    n: usize,
+    offset: usize,
+    heads: &mut [u16; BUCKETS],
+    before: &mut [u16; MOST_LEAVES],
+    starts: &mut [u16; MOST_LEAVES],
+) -> Outcome
+    requires { ⌜ (offset ≤ length (now sheet)) × (length (now sheet) ≤ longest-sheet) × (n ≤ most-leaves)
+        × Indexes (now sheet) 0 (now heads) (now before) (now starts) ⌝ }
+    ensures answer { λ r. ⌜ r ≡ outcome-of (names-refusal (now (sheet .entry)) n offset) ⌝ }
+    ensures index { λ _. ⌜ (names-refusal (now (sheet .entry)) n offset ≡ none
+        → Indexes (now (sheet .entry)) n (now (heads .exit)) (now (before .exit)) (now (starts .exit))) ⌝ }
 {
     let mut i: usize = 0;
     let mut at: usize = 0;
     while i < n {
-        if !good_name(sheet, offset, at) {
+        let hash = name_hash(sheet, offset, at);
+        if hash == HASHES {
             return Outcome::Refused(Refusal::Name(i));
         }
-        if repeats(sheet, i, at) {
+        if repeats(sheet, i, at, hash, heads, before, starts) {
             return Outcome::Refused(Refusal::SameName(i));
         }
         at = next_name(sheet, at);

@@ -1,4 +1,5 @@
 pub mod HalvesReplies
 mod Questions
+mod TextReplies
 pub mod NameReplies
 pub mod SheetCall

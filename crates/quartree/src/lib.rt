@@ -16,8 +16,10 @@ ghost use Rattle.sheet_tables.specs.Operations.{sheet-table-answer};
 ghost use Rattle.sheet_names.specs.Operations.{name-answer};
 ghost use Rattle.sheet_trees.specs.Operations.{sheet-bytes-answer};
 ghost use Rattle.sheet_trees.specs.Meanings.{SheetBytesMean};
+ghost use Rattle.newick_rules.specs.Operations.{import-answer, export-answer};
+ghost use Rattle.newick_rules.specs.Meanings.{ImportMeans};
 ghost use Rattle.polls.specs.Operations.{poll-answer};
-ghost use Rattle.replies.specs.Replies.{reply, number-reply, reply-with, number-alone};
+ghost use Rattle.replies.specs.Replies.{reply, number-reply, length-reply, reply-with, number-alone};
 ghost use Rattle.quartree.specs.Entries.{lent-pairing-answer};
 ghost use Rattle.quartree.specs.inner.Questions.{paired-reply};
 
@@ -160,6 +162,37 @@ pub extern "C" fn quartree_sheet_name(sheet: &[u8], leaf: usize) -> u64
     let place = sheet_names::name_place(sheet, leaf);
     let outcome = place.outcome;
     replies::reply_with(replies::two_figures(place.first, place.many), outcome)
+}
+
+// The Newick text of the tree that a listing stands for, with the names of a sheet, and its length as the figure: 13,
+// 1, 2, 14, 7, 8, 15, 16, 3.
+#[no_mangle]
+pub extern "C" fn quartree_export(sheet: &[u8], listing: &[u16], text: &mut [u8]) -> u64
+    ensures answer { λ r. ⌜ r
+        ≡ length-reply (export-answer (now (sheet .entry)) (now (listing .entry)) (length (now (text .entry)))) ⌝ }
+    ensures buffer { λ r. ⌜ now (text .exit)
+        ≡ written (export-answer (now (sheet .entry)) (now (listing .entry)) (length (now (text .entry))))
+        (now (text .entry)) ⌝ }
+{
+    let exported = newick_export::export(sheet, listing, text);
+    let outcome = exported.outcome;
+    replies::reply_with(exported.length, outcome)
+}
+
+// The standard listing of the tree that a Newick text draws, with the names of a sheet: 13, 1, 14, 3, 15, 16, 17, 18,
+// 19.
+#[no_mangle]
+pub extern "C" fn quartree_import(sheet: &[u8], text: &[u8], out: &mut [u16]) -> u64
+    ensures answer { λ r. ⌜ r
+        ≡ reply (import-answer (now (sheet .entry)) (now (text .entry)) (length (now (out .entry)))) ⌝ }
+    ensures buffer { λ r. ⌜ now (out .exit)
+        ≡ written (import-answer (now (sheet .entry)) (now (text .entry)) (length (now (out .entry))))
+        (now (out .entry)) ⌝ }
+    ensures meaning { λ r. ⌜ Gives reply
+        (ImportMeans (now (sheet .entry)) (now (text .entry)) (length (now (out .entry)))) r
+        (now (out .entry)) (now (out .exit)) ⌝ }
+{
+    replies::reply_of(newick_import::import(sheet, text, out))
 }
 
 // A poll added up: 1, 2, 3, 10, 11.

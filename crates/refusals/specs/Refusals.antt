@@ -1,5 +1,5 @@
--- The causes of refusal (01, "Causes of refusal"): the number of each, and the figures returned with it; and answers.
--- The causes themselves are the cases of the enum `Refusal` in src/lib.rt.
+-- The causes of refusal (01, "Causes of refusal"; 02): the number of each, and the figures returned with it; and
+-- answers. The causes themselves are the cases of the enum `Refusal` in src/lib.rt.
 use mathlib.Core.Bool.{Bool, cond}
 use mathlib.Core.List.{List, [], _∷_, _++_}
 use mathlib.Core.Option.{Option, none, some}
@@ -9,7 +9,7 @@ use Rattle.refusals.specs.declared.Refusal.{Refusal}
 use Rattle.refusals.specs.declared.Refusal.the-variants.{LeafCount, InputLength, OutputRoom, Diagonal, Halves}
 use Rattle.refusals.specs.declared.Refusal.the-variants.{NoTree, Child, NamedBefore, Question, Record}
 use Rattle.refusals.specs.declared.Refusal.the-variants.{PairingCode, Proposal, SheetEnds, SheetLength}
-use Rattle.refusals.specs.declared.Refusal.the-variants.{Name, SameName}
+use Rattle.refusals.specs.declared.Refusal.the-variants.{Name, SameName, Grammar, NotBinary, Unmatched}
 use Rattle.refusals.specs.declared.Outcome.{Outcome}
 use Rattle.refusals.specs.declared.Outcome.the-variants.{Done, Refused}
 
@@ -31,6 +31,9 @@ number-of SheetEnds = 13
 number-of SheetLength = 14
 number-of (Name i) = 15
 number-of (SameName i) = 16
+number-of (Grammar k) = 17
+number-of NotBinary = 18
+number-of Unmatched = 19
 
 -- the figures returned with it
 abbrev pub figures-of : Refusal → List ℕ
@@ -50,6 +53,9 @@ figures-of SheetEnds = []
 figures-of SheetLength = []
 figures-of (Name i) = i ∷ []
 figures-of (SameName i) = i ∷ []
+figures-of (Grammar k) = k ∷ []
+figures-of NotBinary = []
+figures-of Unmatched = []
 
 -- what an operation answers: its result, or a refusal
 pub data Answer (A : Type 0) : Type 0 where

@@ -35,6 +35,12 @@ pub enum Refusal {
     Name(usize),
     // 16: this leaf's name equals an earlier one
     SameName(usize),
+    // 17: a Newick text breaks the grammar or nests too deep at this byte, or stops early: then the text's length
+    Grammar(usize),
+    // 18: a node of a Newick text is not binary, apart from a three-way top
+    NotBinary,
+    // 19: a name of a Newick text is unknown, repeated or missing
+    Unmatched,
 }
 
 // What an operation answers when its result, if it has one, stands in a lent buffer.
@@ -64,5 +70,8 @@ pub fn number(r: Refusal) -> u32
         Refusal::SheetLength => 14,
         Refusal::Name(_) => 15,
         Refusal::SameName(_) => 16,
+        Refusal::Grammar(_) => 17,
+        Refusal::NotBinary => 18,
+        Refusal::Unmatched => 19,
     }
 }

@@ -6,6 +6,7 @@ use Rattle.refusals.specs.declared.Refusal.{Refusal}
 use Rattle.refusals.specs.declared.Refusal.the-variants.{LeafCount as Count, InputLength, OutputRoom, Diagonal, Halves}
 use Rattle.refusals.specs.declared.Refusal.the-variants.{NoTree, Child, NamedBefore, Question, Record, PairingCode}
 use Rattle.refusals.specs.declared.Refusal.the-variants.{Proposal, SheetEnds, SheetLength, Name, SameName}
+use Rattle.refusals.specs.declared.Refusal.the-variants.{Grammar, NotBinary, Unmatched}
 use Rattle.refusals.specs.Refusals.{number-of}
 use Rattle.replies.specs.Replies.{eight-bits}
 
@@ -26,3 +27,6 @@ numbered SheetEnds = (omega arith, omega arith, λ h. absurd (omega arith))
 numbered SheetLength = (omega arith, omega arith, λ h. absurd (omega arith))
 numbered (Name i) = (omega arith, omega arith, λ h. absurd (omega arith))
 numbered (SameName i) = (omega arith, omega arith, λ h. absurd (omega arith))
+numbered (Grammar k) = (omega arith, omega arith, λ h. absurd (omega arith))
+numbered NotBinary = (omega arith, omega arith, λ h. absurd (omega arith))
+numbered Unmatched = (omega arith, omega arith, λ h. absurd (omega arith))

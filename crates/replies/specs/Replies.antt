@@ -2,6 +2,7 @@
 -- the figure that comes with it, its lowest 56 bits.
 use mathlib.Core.List.{List, [], _∷_}
 use Prim.Native.Nat.{ℕ, _+_, _*_, _%_, _^_}
+use lib.ListN.{length}
 use Rattle.refusals.specs.declared.Refusal.{Refusal}
 use Rattle.refusals.specs.Refusals.{number-of, figures-of, Answer, accepted, refused}
 
@@ -35,6 +36,11 @@ reply (refused r) = refusal-reply r
 unfoldable pub number-reply : Answer ℕ → ℕ
 number-reply (accepted x) = in-one 0 x
 number-reply (refused r) = refusal-reply r
+
+-- the reply of a call whose result stands in a buffer: its length is the figure
+unfoldable pub length-reply : {A : Type 0} → Answer (List A) → ℕ
+length-reply (accepted l) = in-one 0 (length l)
+length-reply (refused r) = refusal-reply r
 
 -- the reply of a call that, where it is accepted, has this number for a result too
 unfoldable pub reply-with : {A : Type 0} → ℕ → Answer A → ℕ

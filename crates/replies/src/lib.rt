@@ -48,6 +48,9 @@ fn figure_of(r: Refusal) -> usize
         Refusal::SheetLength => 0,
         Refusal::Name(i) => i,
         Refusal::SameName(i) => i,
+        Refusal::Grammar(k) => k,
+        Refusal::NotBinary => 0,
+        Refusal::Unmatched => 0,
     }
 }
 

@@ -1,5 +1,4 @@
--- Names in a sheet: equal names, where names start, when the name at a place is good, and when it equals an earlier
--- one.
+-- Names in a sheet: equal names, where names start, and when the name at a place is good.
 use mathlib.Core.Path.{_≡_, refl, ap, _∙_}
 use mathlib.Core.Bool.{Bool, true, false, _&&_, and-false}
 use mathlib.Core.List.{List, [], _∷_, _++_}
@@ -13,12 +12,12 @@ use lib.ListN.{length, getD, take, drop, length-drop}
 use lib.Seq.{length-take-le, take-add, drop-cons}
 use Rattle.base.specs.Lists.{tab, any-in, all-in}
 use Rattle.base.proofs.Bools.{is-false, and-both, and-is, eqb-same, never}
-use Rattle.base.proofs.Lists.{length-tab, getD-tab, any-append, any-tab-found}
+use Rattle.base.proofs.Lists.{length-tab, getD-tab, any-append}
 use Rattle.sheet_rules.specs.Sheets.{longest-name, name-at, next-name, name-start, name, between, name-byte}
 use Rattle.sheet_rules.specs.Sheets.{is-name}
 use Rattle.sheet_rules.specs.Sheets.{same}
 use Rattle.sheet_rules.specs.Sheets.{leaves-of, names-of}
-use Rattle.sheet_rules.specs.Operations.{good-at, repeated}
+use Rattle.sheet_rules.specs.Operations.{good-at}
 
 -- `same` tests equality
 pub same-is : (l m : List ℕ) → same l m ≡ true → l ≡ m
@@ -134,49 +133,14 @@ pub good-by : (S : List ℕ) (o p : ℕ) → next-name S p ≤ o → is-name (na
 unfolding good-at
 good-by S o p h e = rw (lt-ltb p o (omega arith), le-leb (next-name S p) o h) e
 
--- A member of a list by a rule passes: looked for from the front.
-any-tab-more :
-    {A : Type 0} (f : A → Bool) (g : ℕ → A) (k : ℕ) → any-in f (tab k g) ≡ false → f (g k) ≡ false
-    → any-in f (tab (k + 1) g) ≡ false
-unfolding tab any-in
-any-tab-more f g k h e = rw (add-one k, any-append f (tab k g) (g k ∷ []), h, e)
-
+-- no member of a list by a rule passes
 pub any-tab-none :
     {A : Type 0} (f : A → Bool) (g : ℕ → A) (n : ℕ) → ((k : ℕ) → k < n → f (g k) ≡ false) → any-in f (tab n g) ≡ false
-any-tab-none f g zero h = unfold any-in tab in refl
+unfolding any-in tab
+any-tab-none f g zero h = refl
 any-tab-none f g (suc n) h =
-    rw (← add-one n) (any-tab-more f g n (any-tab-none f g n (λ k l. h k (omega arith))) (h n (omega arith)))
-
--- Leaf i's name, which starts at a place, compared with those before it: the first k, the next of which starts at p,
--- are not equal to it.
-pub record Unlike (S : List ℕ) (i k p : ℕ) : Type 0 where
-  pub within : k ≤ i
-  pub here : p ≡ name-start S k
-  pub so-far : any-in (same (name S i)) (tab k (name S)) ≡ false
-
-pub unlike-none : (S : List ℕ) (i : ℕ) → Unlike S i 0 0
-unfolding any-in tab name-start
-unlike-none S i = record { within = omega arith; here = refl; so-far = refl }
-
-module _ {S : List ℕ} {i k p at : ℕ} (u : Unlike S i k p) (e : at ≡ name-start S i) where
-  pub like-here : k < i → same (name-at S at) (name-at S p) ≡ true → repeated S i ≡ true
-  unfolding repeated
-  like-here l t =
-      any-tab-found (same (name S i)) (name S) i k l (rw (start-name S i e, start-name S k (u .here)) at t)
-
-  pub unlike-more :
-      {q : ℕ} → k < i → same (name-at S at) (name-at S p) ≡ false → q ≡ next-name S p → Unlike S i (k + 1) q
-  unlike-more l t h =
-      let differs = rw (start-name S i e, start-name S k (u .here)) at t in
-      record {
-        within = omega arith;
-        here = h ∙ start-next S k (u .here);
-        so-far = any-tab-more (same (name S i)) (name S) k (u .so-far) differs;
-      }
-
-  pub unlike-all : i ≤ k → repeated S i ≡ false
-  unfolding repeated
-  unlike-all l = let all : k ≡ i = omega (arith, u .within) in rw all at (u .so-far)
+    let others = any-tab-none f g n (λ k l. h k (omega arith)) in
+    rw (any-append f (tab n g) (g n ∷ []), others, h n (omega arith))
 
 -- The names that are read.
 pub names-many : (S : List ℕ) → length (names-of S) ≡ leaves-of S

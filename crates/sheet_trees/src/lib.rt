@@ -15,16 +15,6 @@ ghost use Rattle.sheet_trees.specs.Meanings.{SheetBytesMean};
 
 mod bytes;
 
-// How many rows a listing of n leaves has; none where n is below 2.
-fn rows_of(n: usize) -> usize
-    ensures { λ r. ⌜ r ≡ n - 2 ⌝ }
-{
-    if n < 2 {
-        return 0;
-    }
-    n - 2
-}
-
 // Judges a sheet by its trailer's figures, and the room for a listing that takes so many cells a row: 13, 1, 14, 3, 15,
 // 16.
 fn judge_rows(sheet: &[u8], figures: Figures, cells: usize, room: usize) -> Outcome
@@ -32,7 +22,12 @@ fn judge_rows(sheet: &[u8], figures: Figures, cells: usize, room: usize) -> Outc
     ensures { λ r. ⌜ r ≡ outcome-of (sheet-refusal (now (sheet .entry)) (cells * (leaves-of (now (sheet .entry)) - 2))
         room) ⌝ }
 {
-    sheets::judge_sheet(sheet, figures, cells * rows_of(figures.leaves), room)
+    sheets::judge_sheet(
+        sheet,
+        figures,
+        cells * checks::rows_of(figures.leaves),
+        room,
+    )
 }
 
 // The tree of a sheet that has been judged, with room for its listing: the rebuild reads the cells where they stand.

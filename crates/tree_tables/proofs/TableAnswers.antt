@@ -1,8 +1,8 @@
 -- A table and a listing as they are judged for the gap, one go after the other; and what holds where nothing is
 -- refused.
-use mathlib.Core.Path.{_≡_, refl, ap, sym, _∙_}
+use mathlib.Core.Path.{_≡_, ap, sym, _∙_}
 use mathlib.Core.List.{List, [], _∷_}
-use mathlib.Core.Option.{Option, none, some}
+use mathlib.Core.Option.{Option, none}
 use Prim.Native.Nat.{ℕ, _*_, _≤_}
 use native.Mathlib.Omega.{arith}
 use lib.ListN.{length}
@@ -12,7 +12,7 @@ use Rattle.refusals.specs.declared.Refusal.{Refusal}
 use Rattle.refusals.specs.declared.Outcome.{Outcome}
 use Rattle.refusals.specs.declared.Outcome.the-variants.{Done, Refused}
 use Rattle.refusals.specs.Refusals.{judged, outcome-of}
-use Rattle.refusals.proofs.Answers.{judged-passes, judged-none, go-stops, go-passes}
+use Rattle.refusals.proofs.Answers.{judged-passes, judged-nest, judged-none, go-stops, go-passes}
 use Rattle.trees.specs.Listings.{KeepsRules}
 use Rattle.trees.specs.Tables.{cells-refusal}
 use Rattle.checks.specs.Sizes.{count-refusal, length-refusal, input-refusal}
@@ -23,14 +23,6 @@ use Rattle.table_checks.specs.Operations.{table-refusal}
 use Rattle.table_checks.proofs.TableRefusal.{cells-left}
 use Rattle.tree_tables.specs.Operations.{gap-refusal}
 
--- two refusals judged in a go of their own
-joined :
-    (a b : Option Refusal) (l : List (Option Refusal)) → judged (a ∷ b ∷ l) ≡ judged (judged (a ∷ b ∷ []) ∷ l)
-unfolding judged
-joined none none l = refl
-joined none (some r) l = refl
-joined (some r) b l = refl
-
 module _ (n : ℕ) (t l : List ℕ) (room : ℕ) where
   abbrev sizes : Option Refusal
   sizes = input-refusal Counts n (n * n) (length t)
@@ -40,7 +32,7 @@ module _ (n : ℕ) (t l : List ℕ) (room : ℕ) where
 
   in-goes : gap-refusal n t l room ≡ judged (sizes ∷ listed ∷ cells-refusal n t ∷ [])
   unfolding gap-refusal input-refusal
-  in-goes = joined (count-refusal n) (length-refusal (n * n) (length t)) (listed ∷ cells-refusal n t ∷ [])
+  in-goes = judged-nest (count-refusal n ∷ length-refusal (n * n) (length t) ∷ []) (listed ∷ cells-refusal n t ∷ [])
 
   pub sizes-stop :
       {q : Outcome} {r : Refusal} → q ≡ outcome-of sizes → q ≡ Refused r → q ≡ outcome-of (gap-refusal n t l room)

@@ -1,0 +1,4 @@
+pub mod Parts
+pub mod Hashes
+pub mod NamedLeaves
+pub mod Indexes

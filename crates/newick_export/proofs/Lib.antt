@@ -1,0 +1,2 @@
+pub mod ExportRefusal
+pub mod ExportAnswer

@@ -1,0 +1,88 @@
+-- The rows that the chain makes, one by one behind those in the array: what is written and what is left to write stay
+-- the listing.
+use mathlib.Core.Path.{_≡_, refl, ap, sym, _∙_}
+use mathlib.Core.List.{List, [], _∷_, _++_, append-nil, append-assoc}
+use Prim.Native.Nat.{ℕ, zero, suc, _+_, _-_, _*_, _≤_, _<_}
+use native.Mathlib.Omega.{arith}
+use lib.ListN.{length, getD, set, take, length-set, length-append}
+use lib.Seq.{length-take-le}
+use Rattle.limits.specs.Limits.{most-numbers}
+use Rattle.trees.proofs.AddedRows.{row-stored}
+use Rattle.newick_reading.specs.inner.Joining.{chain-rows}
+use Rattle.newick_parts.specs.inner.Keeping.{Piled}
+use Rattle.newick_import.specs.inner.Chains.{backwards, with-chain, ChainFits}
+
+-- a chain that an array holds
+pub piled-backwards : (cells l : List ℕ) → Piled cells l → backwards (length l) cells ≡ l
+unfolding backwards
+piled-backwards cells [] p = refl
+piled-backwards cells (x ∷ l) p = rw (p .0, piled-backwards cells l (p .1))
+
+pub chain-rows-length : (r above : ℕ) (l : List ℕ) → length (chain-rows r above l) ≡ 2 * length l
+unfolding chain-rows
+chain-rows-length r above [] = refl
+chain-rows-length r above (c ∷ l) = omega (arith, chain-rows-length (suc r) r l)
+
+backwards-length : (k : ℕ) (cells : List ℕ) → length (backwards k cells) ≡ k
+unfolding backwards
+backwards-length zero cells = refl
+backwards-length (suc k) cells = ap suc (backwards-length k cells)
+
+pub with-chain-length :
+    (n m chained : ℕ) (chain rows : List ℕ) → ChainFits n m chained chain rows
+    → length (with-chain n m chained chain rows) ≡ 2 * (m + (chained - 1))
+unfolding with-chain
+with-chain-length n m chained chain rows F =
+    let rest = backwards (chained - 1) chain in
+    let own = chain-rows-length (n + m) (getD chain (chained - 1) 0) rest in
+    rw (length-append, length-take-le (2 * m) rows (omega (arith, F .room, F .rows-long)))
+    (omega (arith, own, backwards-length (chained - 1) chain))
+
+-- after r rows, with the first k numbers of the chain left
+pub record Hung (n m chained : ℕ) (chain rows₀ rows : List ℕ) (r k above : ℕ) : Type 0 where
+  pub fits : ChainFits n m chained chain rows₀
+  pub long : length rows ≡ most-numbers
+  pub left : r + k ≡ m + (chained - 1)
+  pub so-far : take (2 * r) rows ++ chain-rows (n + r) above (backwards k chain) ≡ with-chain n m chained chain rows₀
+
+module _ {n m chained : ℕ} {chain rows₀ : List ℕ} where
+  pub hung-start :
+      ChainFits n m chained chain rows₀
+      → Hung n m chained chain rows₀ rows₀ m (chained - 1) (getD chain (chained - 1) 0)
+  unfolding with-chain
+  hung-start F = record { fits = F; long = F .rows-long; left = refl; so-far = refl }
+
+  pub hung-more :
+      {rows : List ℕ} {r k above : ℕ} → 0 < k → Hung n m chained chain rows₀ rows r k above
+      → Hung n m chained chain rows₀ (set (set rows (2 * r) above) (2 * r + 1) (getD chain (k - 1) 0)) (r + 1) (k - 1)
+      (n + r)
+  unfolding backwards chain-rows
+  hung-more {rows} {r} {k} {above} h H = record {
+    fits = H .fits;
+    long = length-set (set rows (2 * r) above) (2 * r + 1) c ∙ length-set rows (2 * r) above ∙ H .long;
+    left = omega (arith, H .left);
+    so-far =
+        let was = rw back at (H .so-far) in
+        rw (row-stored rows r above c room, next) (append-assoc (take (2 * r) rows) (above ∷ c ∷ []) _ ∙ was);
+  }
+    where
+      c : ℕ
+      c = getD chain (k - 1) 0
+
+      back : k ≡ suc (k - 1)
+      back = omega arith
+
+      next : n + (r + 1) ≡ suc (n + r)
+      next = omega arith
+
+      room : 2 * r + 1 < length rows
+      room = omega (arith, H .left, H .long, H .fits .room)
+
+  pub hung-end :
+      {rows : List ℕ} {r k above : ℕ} → k ≤ 0 → Hung n m chained chain rows₀ rows r k above
+      → take (2 * (m + (chained - 1))) rows ≡ with-chain n m chained chain rows₀
+  unfolding backwards chain-rows
+  hung-end {rows} {r} {k} {above} h H =
+      let e : k ≡ 0 = omega arith in
+      let all : r ≡ m + (chained - 1) = omega (arith, H .left) in
+      rw (← all) (sym (append-nil (take (2 * r) rows)) ∙ rw e at (H .so-far))

@@ -1,0 +1,5 @@
+mod TakenNames
+mod Chains
+mod Texts
+mod Running
+mod Answers

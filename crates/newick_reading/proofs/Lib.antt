@@ -1,0 +1,5 @@
+pub mod Moves
+pub mod Fitting
+pub mod Naming
+pub mod Joining
+pub mod Finishing

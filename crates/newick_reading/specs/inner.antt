@@ -1,0 +1,4 @@
+pub mod Moves
+pub mod Fitting
+pub mod Naming
+pub mod Joining

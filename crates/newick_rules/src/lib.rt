@@ -1,0 +1,1 @@
+// Newick text: definitions in specs/, laws in proofs/, and no code.

@@ -1,0 +1,19 @@
+-- `quartree::quartree_import` meets its contract: reply, buffer and meaning are those of the operation that it calls.
+use borrow.Author.Needs.{needs}
+use Rattle.refusals.proofs.Meanings.{with-meaning}
+use Rattle.newick_rules.specs.Operations.{import-answer}
+use Rattle.newick_rules.specs.Meanings.{ImportMeans}
+use Rattle.newick_rules.proofs.Sheets.{import-answer-says}
+use Rattle.replies.specs.Replies.{reply}
+use Rattle.replies.proofs.Replies.{replied}
+use Rattle.quartree.proofs.quartree_import.Statement.{statement}
+use Rattle.quartree.proofs.quartree_import.Tie as tie
+
+returns : tie.Need-returns
+returns c =
+    let done = c .before .before .before .import .ensures in
+    with-meaning reply (ImportMeans _ _ _) (import-answer _ _ _) (import-answer-says _ _ _)
+    (replied _ (c .reply-of .ensures) (done .0), done .1 .0)
+
+pub quartree-import-spec : {M : Type 1} → statement M
+quartree-import-spec = tie.close (tie.spec (λ c κs. search needs) (λ c κs. search needs) (λ c. search needs) returns)
