@@ -1,5 +1,2 @@
-mod TakenNames
-mod Chains
-mod Texts
-mod Running
+mod Hanging
 mod Answers

@@ -1,6 +1,6 @@
 -- `newick_import::hang` meets its contract: what is written and what is left to write stay the listing.
 use borrow.Author.Needs.{needs}
-use Rattle.newick_import.proofs.Chains.{Hung, hung-start, hung-more, hung-end}
+use Rattle.newick_import.proofs.Hanging.{Hung, hung-start, hung-more, hung-end}
 use Rattle.newick_import.proofs.hang.Statement.{statement}
 use Rattle.newick_import.proofs.hang.Tie as tie
 

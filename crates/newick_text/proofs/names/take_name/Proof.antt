@@ -1,12 +1,12 @@
--- `newick_import::names::take_name` meets its contract: the index says which leaf has the name, and the array whether
+-- `newick_text::names::take_name` meets its contract: the index says which leaf has the name, and the array whether
 -- it was named before.
 use native.Mathlib.Omega.{arith}
 use borrow.Author.Needs.{needs}
 use mathlib.Core.Path.{_∙_}
-use Rattle.newick_import.proofs.TakenNames.{leaf-of-sheet, taken-misnamed, taken-unknown, taken-again, taken-new}
-use Rattle.newick_import.specs.inner.Names.{named-kept}
-use Rattle.newick_import.proofs.names.take_name.Statement.{statement}
-use Rattle.newick_import.proofs.names.take_name.Tie as tie
+use Rattle.newick_text.proofs.TakenNames.{leaf-of-sheet, taken-misnamed, taken-unknown, taken-again, taken-new}
+use Rattle.newick_text.specs.inner.Names.{named-kept}
+use Rattle.newick_text.proofs.names.take_name.Statement.{statement}
+use Rattle.newick_text.proofs.names.take_name.Tie as tie
 
 returns : tie.Need-returns
 returns c =

@@ -1,8 +1,8 @@
--- `newick_import::judge_kept` meets its contract: its tests are those of `kept-refusal`, in order.
+-- `newick_text::judge_kept` meets its contract: its tests are those of `kept-refusal`, in order.
 use borrow.Author.Tests.{not-true, not-false}
-use Rattle.newick_import.proofs.Texts.{not-binary, not-named, not-all, all-right}
-use Rattle.newick_import.proofs.judge_kept.Statement.{statement}
-use Rattle.newick_import.proofs.judge_kept.Tie as tie
+use Rattle.newick_text.proofs.Texts.{not-binary, not-named, not-all, all-right}
+use Rattle.newick_text.proofs.judge_kept.Statement.{statement}
+use Rattle.newick_text.proofs.judge_kept.Tie as tie
 
 returns : tie.Need-returns
 returns c = not-binary _ _ (not-true _ (c .if1 .taken))

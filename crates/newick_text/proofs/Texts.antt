@@ -41,9 +41,9 @@ use Rattle.newick_reading.proofs.Joining.{keeps-start}
 use Rattle.newick_parts.specs.declared.Kept.{Kept}
 use Rattle.newick_parts.specs.inner.Keeping.{KeptAt}
 use Rattle.newick_parts.specs.inner.Parts.{Comes, Came}
-use Rattle.newick_import.specs.inner.Names.{word-at, flags, Indexed, NameMayEnd, NameEnded}
-use Rattle.newick_import.specs.inner.Texts.{next-from, next-hash, kept-refusal, NameSoFar, ReadTo, Ready}
-use Rattle.newick_import.proofs.TakenNames.{name-kept}
+use Rattle.newick_text.specs.inner.Names.{word-at, flags, Indexed, NameMayEnd, NameEnded}
+use Rattle.newick_text.specs.inner.Texts.{next-from, next-hash, kept-refusal, NameSoFar, ReadTo, Ready}
+use Rattle.newick_text.proofs.TakenNames.{name-kept}
 
 -- The ways out of the small functions.
 pub from-inside : (state from k : ℕ) → state ≡ 1 → from ≡ next-from state from k

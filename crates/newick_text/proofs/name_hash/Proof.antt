@@ -1,10 +1,10 @@
--- `newick_import::name_hash` meets its contract: the three cases are those of `next-hash`.
+-- `newick_text::name_hash` meets its contract: the three cases are those of `next-hash`.
 use native.Mathlib.Omega.{arith}
 use borrow.Author.Needs.{needs}
 use mathlib.Core.Path.{_∙_}
-use Rattle.newick_import.proofs.Texts.{hash-outside, hash-on, hash-first}
-use Rattle.newick_import.proofs.name_hash.Statement.{statement}
-use Rattle.newick_import.proofs.name_hash.Tie as tie
+use Rattle.newick_text.proofs.Texts.{hash-outside, hash-on, hash-first}
+use Rattle.newick_text.proofs.name_hash.Statement.{statement}
+use Rattle.newick_text.proofs.name_hash.Tie as tie
 
 returns : tie.Need-returns
 returns c = (hash-outside _ _ _ _ (c .if1 .taken), omega arith)

@@ -1,42 +1,14 @@
 -- The rows that the chain makes, one by one behind those in the array: what is written and what is left to write stay
 -- the listing.
-use mathlib.Core.Path.{_≡_, refl, ap, sym, _∙_}
+use mathlib.Core.Path.{_≡_, refl, sym, _∙_}
 use mathlib.Core.List.{List, [], _∷_, _++_, append-nil, append-assoc}
-use Prim.Native.Nat.{ℕ, zero, suc, _+_, _-_, _*_, _≤_, _<_}
+use Prim.Native.Nat.{ℕ, suc, _+_, _-_, _*_, _≤_, _<_}
 use native.Mathlib.Omega.{arith}
-use lib.ListN.{length, getD, set, take, length-set, length-append}
-use lib.Seq.{length-take-le}
+use lib.ListN.{length, getD, set, take, length-set}
 use Rattle.limits.specs.Limits.{most-numbers}
 use Rattle.trees.proofs.AddedRows.{row-stored}
 use Rattle.newick_reading.specs.inner.Joining.{chain-rows}
-use Rattle.newick_parts.specs.inner.Keeping.{Piled}
-use Rattle.newick_import.specs.inner.Chains.{backwards, with-chain, ChainFits}
-
--- a chain that an array holds
-pub piled-backwards : (cells l : List ℕ) → Piled cells l → backwards (length l) cells ≡ l
-unfolding backwards
-piled-backwards cells [] p = refl
-piled-backwards cells (x ∷ l) p = rw (p .0, piled-backwards cells l (p .1))
-
-pub chain-rows-length : (r above : ℕ) (l : List ℕ) → length (chain-rows r above l) ≡ 2 * length l
-unfolding chain-rows
-chain-rows-length r above [] = refl
-chain-rows-length r above (c ∷ l) = omega (arith, chain-rows-length (suc r) r l)
-
-backwards-length : (k : ℕ) (cells : List ℕ) → length (backwards k cells) ≡ k
-unfolding backwards
-backwards-length zero cells = refl
-backwards-length (suc k) cells = ap suc (backwards-length k cells)
-
-pub with-chain-length :
-    (n m chained : ℕ) (chain rows : List ℕ) → ChainFits n m chained chain rows
-    → length (with-chain n m chained chain rows) ≡ 2 * (m + (chained - 1))
-unfolding with-chain
-with-chain-length n m chained chain rows F =
-    let rest = backwards (chained - 1) chain in
-    let own = chain-rows-length (n + m) (getD chain (chained - 1) 0) rest in
-    rw (length-append, length-take-le (2 * m) rows (omega (arith, F .room, F .rows-long)))
-    (omega (arith, own, backwards-length (chained - 1) chain))
+use Rattle.newick_text.specs.inner.Chains.{backwards, with-chain, ChainFits}
 
 -- after r rows, with the first k numbers of the chain left
 pub record Hung (n m chained : ℕ) (chain rows₀ rows : List ℕ) (r k above : ℕ) : Type 0 where

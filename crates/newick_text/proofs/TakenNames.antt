@@ -24,7 +24,7 @@ use Rattle.newick_reading.proofs.Naming.{names-name, still-wrong, unknown-wrong
 use Rattle.newick_reading.proofs.Joining.{keeps-name}
 use Rattle.newick_parts.specs.declared.Kept.{Kept}
 use Rattle.newick_parts.specs.inner.Keeping.{Built, KeptAt}
-use Rattle.newick_import.specs.inner.Names.{flags, misnamed-kept, named-kept, Indexed, NameTaken, NameEnded}
+use Rattle.newick_text.specs.inner.Names.{flags, misnamed-kept, named-kept, Indexed, NameTaken, NameEnded}
 
 -- the index has the names of the sheet
 pub leaf-of-sheet :

@@ -1,4 +1,4 @@
--- `newick_import::read_text` meets its contract: what is kept of the bytes so far is what the laws of reading say, and
+-- `newick_text::read_text` meets its contract: what is kept of the bytes so far is what the laws of reading say, and
 -- gives what is kept of one more and of the run behind it.
 use native.Mathlib.Omega.{arith}
 use borrow.Author.Needs.{needs}
@@ -7,14 +7,14 @@ use lib.ListN.{length}
 use Rattle.limits.specs.Limits.{IsLeafCount}
 use Rattle.sheet_rules.specs.Sheets.{names-of}
 use Rattle.newick_rules.specs.Operations.{Strains}
-use Rattle.newick_import.specs.inner.Names.{Indexed}
-use Rattle.newick_import.specs.inner.Texts.{ReadTo}
-use Rattle.newick_import.proofs.Texts.{read-start, name-may-end, breaks-here, byte-comes, read-more, ends-early}
-use Rattle.newick_import.proofs.Texts.{ends-whole}
-use Rattle.newick_import.proofs.Answers.{grammar-says, kept-says}
-use Rattle.newick_import.proofs.Running.{ran-on, ran-low}
-use Rattle.newick_import.proofs.read_text.Statement.{statement}
-use Rattle.newick_import.proofs.read_text.Tie as tie
+use Rattle.newick_text.specs.inner.Names.{Indexed}
+use Rattle.newick_text.specs.inner.Texts.{ReadTo}
+use Rattle.newick_text.proofs.Texts.{read-start, name-may-end, breaks-here, byte-comes, read-more, ends-early}
+use Rattle.newick_text.proofs.Texts.{ends-whole}
+use Rattle.newick_text.proofs.Answers.{grammar-says, kept-says}
+use Rattle.newick_text.proofs.Running.{ran-on, ran-low}
+use Rattle.newick_text.proofs.read_text.Statement.{statement}
+use Rattle.newick_text.proofs.read_text.Tie as tie
 
 abbrev Inv-loop : tie.InvT-loop
 Inv-loop sheet n heads before starts text parts₀ numbers₀ seen₀ rows₀ chain₀ kept₀ state₀ depth₀ from₀ hash₀ k₀

@@ -6,8 +6,8 @@ use newick_parts::Kept;
 use newick_states::IN_NAME;
 ghost use mathlib.Core.Path.{_≡_};
 ghost use Rattle.sheet_rules.specs.Sheets.{names-of};
-ghost use Rattle.newick_import.specs.inner.Names.{word-at, misnamed-kept, NameFits, NameTaken, NameMayEnd};
-ghost use Rattle.newick_import.specs.inner.Names.{NameEnded};
+ghost use Rattle.newick_text.specs.inner.Names.{word-at, misnamed-kept, NameFits, NameTaken, NameMayEnd};
+ghost use Rattle.newick_text.specs.inner.Names.{NameEnded};
 
 // A name is not known, or stands twice.
 fn misnamed(kept: Kept) -> Kept

@@ -22,9 +22,9 @@ use Rattle.name_index.specs.inner.Hashes.{hashes, hash-step, hash-of}
 use Rattle.newick_reading.specs.inner.Moves.{state-of, opens-of, last-of, NamesInside}
 use Rattle.newick_parts.specs.declared.Kept.{Kept}
 use Rattle.newick_parts.specs.inner.Keeping.{KeptAt}
-use Rattle.newick_import.specs.declared.Read.{Read}
-use Rattle.newick_import.specs.inner.Names.{word-at, flags, Indexed}
-use Rattle.newick_import.specs.inner.Chains.{with-chain, ChainFits}
+use Rattle.newick_text.specs.declared.Read.{Read}
+use Rattle.newick_text.specs.inner.Names.{word-at, flags, Indexed}
+use Rattle.newick_text.specs.inner.Chains.{with-chain, ChainFits}
 
 -- where the name begins that the next byte may be in, and its hash so far
 unfoldable pub next-from : (state from k : ℕ) → ℕ

@@ -1,7 +1,7 @@
--- `newick_import::names::end_name` meets its contract: a name is taken where it ends, and nowhere else.
-use Rattle.newick_import.proofs.TakenNames.{outside-names, inside-name, name-taken}
-use Rattle.newick_import.proofs.names.end_name.Statement.{statement}
-use Rattle.newick_import.proofs.names.end_name.Tie as tie
+-- `newick_text::names::end_name` meets its contract: a name is taken where it ends, and nowhere else.
+use Rattle.newick_text.proofs.TakenNames.{outside-names, inside-name, name-taken}
+use Rattle.newick_text.proofs.names.end_name.Statement.{statement}
+use Rattle.newick_text.proofs.names.end_name.Tie as tie
 
 returns : tie.Need-returns
 returns c = outside-names (c .if1 .taken)

@@ -24,9 +24,9 @@ use Rattle.newick_parts.specs.declared.Kept.{Kept}
 use Rattle.newick_parts.specs.inner.Keeping.{KeptAt}
 use Rattle.newick_runs.specs.declared.Run.{Run}
 use Rattle.newick_runs.specs.inner.Runs.{stays, hash-over, Passed, Ran}
-use Rattle.newick_import.specs.inner.Names.{flags}
-use Rattle.newick_import.specs.inner.Texts.{NameSoFar, ReadTo}
-use Rattle.newick_import.proofs.Texts.{word-goes-on}
+use Rattle.newick_text.specs.inner.Names.{flags}
+use Rattle.newick_text.specs.inner.Texts.{NameSoFar, ReadTo}
+use Rattle.newick_text.proofs.Texts.{word-goes-on}
 
 -- a byte of such a run, where the reader is in no name
 stays-there :

@@ -1,0 +1,5 @@
+mod TakenNames
+pub mod Chains
+mod Texts
+mod Running
+pub mod Answers
