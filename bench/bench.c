@@ -1,6 +1,6 @@
-/* Measures every call of the part against plain C of the same algorithm, and against the floor (its buffers read and
-   written once); the rebuilds also against textbook neighbour joining, the table against counting quartets directly;
-   export and import against another algorithm (plain_newick.c), import also with long texts.
+/* Measures every call of the part against plain C, and against the floor (its buffers read and written once); the
+   rebuilds also against textbook neighbour joining, the table against counting quartets directly; import also with long
+   texts. Plain C of the table, and of all that judges names (plain_sheets.c), is of another algorithm.
    Each figure is a ratio of medians of rounds that take turns in this one run; no bare time is printed. With a file
    name it draws the growth of the calls with the number of leaves there, as an SVG. */
 #define _POSIX_C_SOURCE 200809L
@@ -594,7 +594,7 @@ static void draw(const char *path, double grown[CALLS][COUNTS])
 int main(int argc, char **argv)
 {
     static double grown[CALLS][COUNTS];
-    print_against("Ours over plain C of the same algorithm, on a random tree:", 0);
+    print_against("Ours over plain C, on a random tree:", 0);
     print_against("Ours over the floor, its buffers read and written once:", 1);
     print_rebuilds();
     print_texts();

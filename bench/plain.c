@@ -1,4 +1,4 @@
-/* Plain C of the same algorithms: see plain.h. */
+/* Plain C of trees, tables, polls, and the table of a sheet: see plain.h. */
 #include "plain.h"
 #include <string.h>
 
@@ -306,37 +306,6 @@ int plain_poll(size_t n, const uint8_t *records, uint32_t *out)
                 }
     memcpy(out, sums, n * n * sizeof *out);
     return 0;
-}
-
-static int name_byte(uint8_t x)
-{
-    return (x >= 'A' && x <= 'Z') || (x >= 'a' && x <= 'z') || (x >= '0' && x <= '9') || x == '.' || x == '-';
-}
-
-int plain_sheet(const uint8_t *sheet, size_t len, size_t *n, size_t *offset)
-{
-    size_t start[MOST], at = 0;
-    if (len < 8 || len > 21512 || sheet[len - 2] != 0x51 || sheet[len - 1] != 0x54)
-        return 13;
-    *n = sheet[len - 8] + 256u * sheet[len - 7];
-    *offset = sheet[len - 6] + 256u * sheet[len - 5] + 65536u * sheet[len - 4] + 16777216u * (size_t)sheet[len - 3];
-    if (*n < 3 || *n > 128)
-        return 1;
-    if (*offset + *n * (*n - 1) + 8 != len)
-        return 14;
-    for (size_t i = 0; i < *n; i++) {
-        if (at >= *offset || sheet[at] == 0 || sheet[at] > 40 || at + 1 + sheet[at] > *offset)
-            return 15;
-        for (size_t k = 0; k < sheet[at]; k++)
-            if (!name_byte(sheet[at + 1 + k]))
-                return 15;
-        for (size_t j = 0; j < i; j++)
-            if (memcmp(sheet + start[j], sheet + at, 1 + (size_t)sheet[at]) == 0)
-                return 16;
-        start[i] = at;
-        at += 1 + (size_t)sheet[at];
-    }
-    return at < *offset ? 15 : 0;
 }
 
 int plain_sheet_table(const uint8_t *sheet, size_t len, uint32_t *out)

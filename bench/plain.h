@@ -1,5 +1,5 @@
-/* Plain C of the same algorithms, two textbook ones, and the fastest that was found for texts, for the bench to measure
-   against. Unless it is said otherwise they take lengths that have been checked. */
+/* Plain C for the bench to measure against: of the same algorithms, two textbook ones, and for names and texts the
+   fastest that was found. Unless it is said otherwise they take lengths that have been checked. */
 #ifndef PLAIN_H
 #define PLAIN_H
 #include <stddef.h>

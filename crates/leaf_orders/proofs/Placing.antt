@@ -16,7 +16,7 @@ use Rattle.trees.specs.Listings.{KeepsRules, subtree-at}
 use Rattle.trees.proofs.Trees.{size-node}
 use Rattle.trees.proofs.SubtreesByRow.{subtree-at-leaf, child-positive, named-once}
 use Rattle.leaf_orders.specs.inner.Orders.{Prepared, whole, depth, ChildrenTold, at}
-use Rattle.listings.specs.inner.Standardising.{row-first, row-second}
+use Rattle.listings.specs.inner.Children.{row-first, row-second}
 use Rattle.leaf_orders.specs.inner.Orders.{PlacedAt, LaidOut, ChildrenPlaced, NumbersPlaced}
 use Rattle.leaf_orders.proofs.Rows.{Row, row-subtree-at, size-le}
 

@@ -17,7 +17,7 @@ use Rattle.listings.specs.declared.Row as listings
 use Rattle.listings.specs.Rows.{row-at}
 use Rattle.listings.proofs.Rows.{RowOf, row-read}
 use Rattle.listings.proofs.Entries.{Seen, node-made}
-use Rattle.listings.specs.inner.Standardising.{row-first, row-second}
+use Rattle.listings.specs.inner.Children.{row-first, row-second}
 use Rattle.leaf_orders.specs.inner.Orders.{most-sum, whole, depth, Prepared, ChildrenTold}
 
 pub record Row (n : ℕ) (l : List ℕ) (c : ℕ) : Type 0 where

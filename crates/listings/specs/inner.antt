@@ -1,1 +1,1 @@
-pub mod Standardising
+pub mod Children

@@ -19,10 +19,10 @@ use Rattle.base.proofs.Lists.{length-tab}
 use Rattle.limits.specs.Limits.{most-leaves}
 use Rattle.sheet_rules.specs.Sheets.{name-at, next-name, name-start, name, same, leaf-named}
 use Rattle.sheet_rules.specs.Operations.{repeated}
-use Rattle.sheet_rules.proofs.Names.{same-is, any-tab-none, next-before, start-next, start-name}
+use Rattle.sheet_rules.proofs.Names.{same-is, named-none, any-tab-none, next-before, start-next, start-name}
 use Rattle.name_index.specs.inner.Hashes.{buckets, bucket-of}
 use Rattle.name_index.specs.inner.Indexes.{leaf-bucket, latest, Indexes}
-use Rattle.name_index.proofs.NamedLeaves.{named-none, named-first}
+use Rattle.name_index.proofs.NamedLeaves.{named-first}
 
 -- the greatest number below k that is sent to b: it is, and those above it are not
 module _ (f : ℕ → ℕ) (b : ℕ) where
@@ -184,5 +184,5 @@ module _ {S : List ℕ} {k : ℕ} {heads before starts : List ℕ} (x : Indexes 
 
 pub search-fails : {S : List ℕ} {k : ℕ} {y : List ℕ} → Searching S k y 0 → leaf-named (tab k (name S)) y ≡ k
 search-fails {S} {k} {y} s =
-    named-none y (tab k (name S)) (any-tab-none (same y) (name S) k (λ i l. s .unlike i (omega arith) l))
+    named-none (tab k (name S)) y (any-tab-none (same y) (name S) k (λ i l. s .unlike i (omega arith) l))
     ∙ length-tab k (name S)

@@ -1,14 +1,13 @@
--- The leaf that has a name: where the name is none of those known, where it is, and the first place of it in a list by
--- a rule.
+-- The leaf that has a name: where the name is one of those known, and the first place of it in a list by a rule.
 use mathlib.Core.Path.{_≡_, refl, sym, _∙_}
 use mathlib.Core.Logic.{inl, inr}
 use mathlib.Core.Bool.{true, false}
 use mathlib.Core.List.{List, [], _∷_, _++_}
-use Prim.Native.Nat.{ℕ, zero, suc, _+_, _≤_, _<_}
+use Prim.Native.Nat.{ℕ, zero, suc, _+_, _<_}
 use native.Mathlib.Nat.{add-zero, zero-add}
 use native.Mathlib.Omega.{arith}
 use native.Mathlib.Decide.{decLt}
-use borrow.Author.Tests.{ltb-true, ltb-false, lt-ltb}
+use borrow.Author.Tests.{ltb-true, lt-ltb}
 use lib.Dec.{ltb}
 use lib.ListN.{length}
 use Rattle.base.specs.Lists.{tab, any-in}
@@ -24,14 +23,6 @@ ltb-suc a b =
     (λ t. lt-ltb (suc a) (suc b) (omega (arith, ltb-true a b t)))
 
 module _ (x : List ℕ) where
-  named-within : (l : List (List ℕ)) → leaf-named l x ≤ length l
-  unfolding leaf-named
-  named-within [] = omega arith
-  named-within (y ∷ l) = elim (bool? (same x y)) [
-    | inl t ↦ rw t (omega arith)
-    | inr t ↦ rw t (omega (arith, named-within l))
-  ]
-
   -- some known name is this one where a leaf has it
   named-any : (l : List (List ℕ)) → any-in (same x) l ≡ ltb (leaf-named l x) (length l)
   unfolding any-in leaf-named
@@ -40,11 +31,6 @@ module _ (x : List ℕ) where
     | inl t ↦ rw t (sym (lt-ltb 0 (suc (length l)) (omega arith)))
     | inr t ↦ rw t (named-any l ∙ sym (ltb-suc (leaf-named l x) (length l)))
   ]
-
-  pub named-none : (l : List (List ℕ)) → any-in (same x) l ≡ false → leaf-named l x ≡ length l
-  named-none l h =
-      let late = ltb-false (leaf-named l x) (length l) (sym (named-any l) ∙ h) in
-      omega (arith, named-within l, late)
 
   -- two lists of names, one after the other
   named-past :

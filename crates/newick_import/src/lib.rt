@@ -1,10 +1,10 @@
 // Import: the standard listing of the tree that a Newick text draws, with the names of a sheet.
 use limits::MOST_LEAVES;
 use limits::MOST_NUMBERS;
-use listings::standard::standard_rows;
 use name_index::BUCKETS;
 use newick_text::read_text;
 use refusals::Outcome;
+use standard_listings::standard_rows;
 ghost use mathlib.Core.Path.{_≡_};
 ghost use Prim.Native.Nat.{_-_, _*_, _+_, _≤_};
 ghost use lib.ListN.{length, take};

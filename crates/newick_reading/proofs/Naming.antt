@@ -13,10 +13,10 @@ use lib.Dec.{eqb}
 use lib.ListN.{length, getD}
 use Rattle.base.specs.Numbers.{indicator, count-below}
 use Rattle.base.specs.Lists.{any-in, all-in}
-use Rattle.base.proofs.Bools.{bool?, bool-iff, never, is-false, and-both, and-is, eqb-same}
+use Rattle.base.proofs.Bools.{bool?, bool-iff, is-false, and-both, and-is, eqb-same}
 use Rattle.base.proofs.Counts.{count-ext, count-drop, count-full, count-all, count-false}
 use Rattle.sheet_rules.specs.Sheets.{same, leaf-named}
-use Rattle.sheet_rules.proofs.Names.{same-is, same-self}
+use Rattle.sheet_rules.proofs.Names.{same-is, same-self, named-none}
 use Rattle.newick_rules.specs.Drawings.{Drawing, name, bracket, Parts, names-in}
 use Rattle.newick_rules.specs.Reader.{Open, with-part}
 use Rattle.newick_rules.specs.Importing.{times-in, each-once}
@@ -120,14 +120,6 @@ right-start known n seen h = record {
 }
 
 -- At the end.
-none-named : (known : List (List ℕ)) (x : List ℕ) → any-in (same x) known ≡ false → leaf-named known x ≡ length known
-unfolding any-in leaf-named
-none-named [] x h = refl
-none-named (y ∷ l) x h = elim (bool? (same x y)) [
-  | inl t ↦ absurd (never (rw t) h)
-  | inr f ↦ rw (f, none-named l x (rw f at h))
-]
-
 -- every name is known: none has the number of those known
 known-hits :
     (known names : List (List ℕ))
@@ -140,7 +132,7 @@ known-hits known (x ∷ l) = elim (bool? (any-in (same x) known)) [
       let z : 0 + hits known (length known) l ≡ hits known (length known) l = omega arith in
       rw (t, ne-eqb (leaf-named known x) (length known) (λ e. omega (arith, r .0)), z) (known-hits known l)
   | inr f ↦
-      rw (f, eq-eqb (leaf-named known x) (length known) (none-named known x f))
+      rw (f, eq-eqb (leaf-named known x) (length known) (named-none known x f))
       (sym (ne-eqb (1 + hits known (length known) l) 0 (λ e. omega arith)))
 ]
 
@@ -159,7 +151,7 @@ module _ (n : ℕ) (known : List (List ℕ)) (s : Strains n known) where
           let e = eqb-true (leaf-named known y) i h in
           elim (bool? (any-in (same y) known)) [
             | inl t ↦ (let r = rw e at (found-at known y t .1) in rw r (same-self y))
-            | inr f ↦ absurd (omega (arith, e, none-named known y f, s .many))
+            | inr f ↦ absurd (omega (arith, e, named-none known y f, s .many))
           ]
 
   -- each name stands as often as its leaf is named

@@ -9,8 +9,8 @@ use lib.ListN.{length, getD, take, drop, set, length-append}
 use lib.Seq.{sets, length-sets, drop-cons}
 use Rattle.base.proofs.Lists.{sets-append}
 use Rattle.trees.specs.Listings.{tree-of}
-use Rattle.listings.specs.inner.Standardising.{standard-first, standard-second, AtNode, InOrder}
-use Rattle.listings.proofs.Nodes.{part-leaf, part-node, first-below, second-below}
+use Rattle.standard_listings.specs.inner.Standardising.{standard-first, standard-second, AtNode, InOrder}
+use Rattle.standard_listings.proofs.Nodes.{part-leaf, part-node, first-below, second-below}
 use Rattle.sheet_rules.specs.Sheets.{name, names-of}
 use Rattle.sheet_rules.proofs.Names.{names-at}
 use Rattle.newick_rules.specs.Reader.{opening, closing, comma, semicolon}

@@ -3,10 +3,11 @@
 use limits::MOST_LEAVES;
 use limits::MOST_NUMBERS;
 use limits::MOST_ROWS;
-use listings::standard::children;
-use listings::standard::order_rows;
+use listings::Row;
 use numbers::index_of_u8;
 use numbers::index_of_u16;
+use standard_listings::children;
+use standard_listings::order_rows;
 ghost use mathlib.Core.Path.{_≡_};
 ghost use mathlib.Core.List.{List, [], _∷_};
 ghost use Prim.Native.Nat.{ℕ, _+_, _-_, _*_, _≤_, _<_};
@@ -71,7 +72,7 @@ fn put_pair(
         (now (text .entry))
         → Put (pair-text (now (sheet .entry)) n l v) at (now (text .entry)) (now (text .exit)) r) ⌝ }
 {
-    let c = children(n, sorted, v);
+    let c: Row = children(n, sorted, v);
     let a = put_part(sheet, starts, n, sorted, c.first, at, text);
     let b = put(b',', a, text);
     put_part(sheet, starts, n, sorted, c.second, b, text)

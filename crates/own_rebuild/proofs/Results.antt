@@ -31,7 +31,8 @@ use Rattle.merging.proofs.Runs.{wf-runs}
 use Rattle.merging.proofs.Values.{m-pairs}
 use Rattle.merging.proofs.Rooted.{Rooted, rooted-result, rooted-two, rooted-refused}
 use Rattle.checks.proofs.Sizes.{sizes-pass}
-use Rattle.listings.specs.Operations.{listing-refusal, standardise-answer}
+use Rattle.listings.specs.Operations.{listing-refusal}
+use Rattle.standard_listings.specs.Operations.{standardise-answer}
 use Rattle.leaf_merges.specs.inner.LeafMerges.{LeavesMerged}
 use Rattle.own_rebuild.specs.inner.OneSubtree.{OneSubtreeFits}
 use Rattle.state_arrays.proofs.StateArrays.{in-label}

@@ -91,7 +91,7 @@ pub fn rebuild_checked(
         return Outcome::Refused(Refusal::NoTree);
     }
     let end = 2 * (n - 2);
-    listings::standardise(n, &rows[..end], out);
+    standard_listings::standardise(n, &rows[..end], out);
     Outcome::Done
 }
 

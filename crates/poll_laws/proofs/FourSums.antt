@@ -17,8 +17,8 @@ use Rattle.base.proofs.Sums.{sum-ext, zero-sum, sum-only, indicator-sum, indica
 use Rattle.base.proofs.Sums.{sum2, sum2-ext, sum2-add, zero-sum2, pair-sum-two}
 use Rattle.pair_counts.specs.Pairs.{pairs-below}
 use Rattle.pair_counts.proofs.Pairs.{pairs-sum}
-use Rattle.polls.specs.declared.judging.Quartet.{Quartet}
-use Rattle.polls.specs.Records.{from, four, with-three, with-two, with-one, quartets-of}
+use Rattle.poll_rules.specs.declared.Quartet.{Quartet}
+use Rattle.poll_rules.specs.Records.{from, four, with-three, with-two, with-one, quartets-of}
 
 -- over four
 abbrev sum4 : ℕ → (ℕ → ℕ → ℕ → ℕ → ℕ) → ℕ

@@ -28,17 +28,17 @@ use Rattle.trees.specs.Quartets.{Four}
 use Rattle.trees.proofs.Pairings.{exactly-one, one-pairing}
 use Rattle.refusals.specs.Refusals.{accepted}
 use Rattle.refusals.proofs.Answers.{judged-none, answered-accepted}
-use Rattle.polls.specs.declared.Record.{Record}
-use Rattle.polls.specs.declared.judging.Quartet.{Quartet}
-use Rattle.polls.specs.Records.{four, quartets-of, is-of, record-refusal, records-refusal-from, records-refusal}
-use Rattle.polls.specs.Counts.{cell-of, beside, adds, poll-cell, poll-table}
+use Rattle.poll_rules.specs.declared.Record.{Record}
+use Rattle.poll_rules.specs.declared.Quartet.{Quartet}
+use Rattle.poll_rules.specs.Records.{four, quartets-of, is-of, record-refusal, records-refusal-from, records-refusal}
+use Rattle.poll_rules.specs.Counts.{cell-of, beside, adds, poll-cell, poll-table}
 use Rattle.poll_laws.specs.OwnPairings.{is-own}
-use Rattle.polls.specs.Operations.{poll-sizes-refusal, poll-refusal, poll-answer}
-use Rattle.polls.specs.inner.Steps.{Leaves}
-use Rattle.polls.proofs.Counts.{of-four, adds-code, pairs-apart, poll-mirror}
-use Rattle.polls.proofs.Records.{passes-of, same-leaves}
-use Rattle.polls.proofs.Quartets.{quartets-count}
-use Rattle.polls.proofs.Operations.{sizes-pass}
+use Rattle.poll_rules.specs.Operations.{poll-sizes-refusal, poll-refusal, poll-answer}
+use Rattle.poll_rules.specs.inner.Quartets.{Leaves}
+use Rattle.poll_rules.proofs.Counts.{of-four, adds-code, pairs-apart, poll-mirror}
+use Rattle.poll_rules.proofs.Records.{passes-of, same-leaves}
+use Rattle.poll_rules.proofs.Quartets.{quartets-count}
+use Rattle.poll_rules.proofs.Operations.{sizes-pass}
 use Rattle.poll_laws.proofs.FourSums.{sum2-six, sum4-ext, sum4-zero, pairs-two}
 use Rattle.poll_laws.proofs.FourSums.{only-ab, only-ac, only-ad, only-bc, only-bd, only-cd, total, total-sum}
 use Rattle.poll_laws.proofs.FourSums.{rising, rising-lt, over, over-six}

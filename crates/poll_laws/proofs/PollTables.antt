@@ -15,15 +15,15 @@ use Rattle.trees.specs.Tables.{IsTable}
 use Rattle.trees.proofs.Tables.{rule-is-table}
 use Rattle.refusals.specs.Refusals.{accepted}
 use Rattle.refusals.proofs.Answers.{judged-none, answered-accepted}
-use Rattle.polls.specs.declared.Record.{Record}
-use Rattle.polls.specs.declared.judging.Quartet.{Quartet}
-use Rattle.polls.specs.Records.{quartets-of, record-refusal, records-refusal-from, records-refusal}
-use Rattle.polls.specs.Counts.{adds, poll-cell, poll-table}
-use Rattle.polls.specs.Operations.{poll-sizes-refusal, poll-refusal, poll-answer}
-use Rattle.polls.proofs.Counts.{adds-code, adds-le, poll-mirror}
-use Rattle.polls.proofs.Records.{passes-of, same-leaves}
-use Rattle.polls.proofs.Quartets.{quartets-count}
-use Rattle.polls.proofs.Operations.{sizes-pass}
+use Rattle.poll_rules.specs.declared.Record.{Record}
+use Rattle.poll_rules.specs.declared.Quartet.{Quartet}
+use Rattle.poll_rules.specs.Records.{quartets-of, record-refusal, records-refusal-from, records-refusal}
+use Rattle.poll_rules.specs.Counts.{adds, poll-cell, poll-table}
+use Rattle.poll_rules.specs.Operations.{poll-sizes-refusal, poll-refusal, poll-answer}
+use Rattle.poll_rules.proofs.Counts.{adds-code, adds-le, poll-mirror}
+use Rattle.poll_rules.proofs.Records.{passes-of, same-leaves}
+use Rattle.poll_rules.proofs.Quartets.{quartets-count}
+use Rattle.poll_rules.proofs.Operations.{sizes-pass}
 use Rattle.poll_laws.proofs.FourSums.{sum4-zero, total, total-sum, rising, rising-lt}
 use Rattle.poll_laws.proofs.OwnPolls.{code-diagonal}
 

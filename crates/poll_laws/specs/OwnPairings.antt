@@ -3,7 +3,7 @@ use mathlib.Core.Bool.{Bool}
 use lib.Dec.{eqb}
 use Rattle.trees.specs.Trees.{Tree}
 use Rattle.trees.specs.Quartets.{pairing}
-use Rattle.polls.specs.declared.Record.{Record}
+use Rattle.poll_rules.specs.declared.Record.{Record}
 
 -- the record has the tree's own pairing of its leaves
 unfoldable pub is-own : Tree → Record → Bool

@@ -1,5 +1,3 @@
 pub mod HalvesReplies
-mod Questions
 mod TextReplies
-pub mod NameReplies
 pub mod SheetCall

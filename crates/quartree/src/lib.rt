@@ -1,12 +1,13 @@
 // The C interface (include/quartree.h): one thin entry for each public operation.
-use pairings::Paired;
 ghost use mathlib.Core.Path.{_≡_};
 ghost use Prim.Native.Nat.{_+_, _*_};
 ghost use lib.ListN.{length};
 ghost use Rattle.refusals.specs.Refusals.{written};
 ghost use Rattle.refusals.specs.Meanings.{Gives};
-ghost use Rattle.listings.specs.Operations.{check-answer, standardise-answer};
+ghost use Rattle.listings.specs.Operations.{check-answer};
+ghost use Rattle.standard_listings.specs.Operations.{standardise-answer};
 ghost use Rattle.splits.specs.Operations.{splits-answer};
+ghost use Rattle.pairings.specs.Operations.{lent-pairing-answer};
 ghost use Rattle.tree_tables.specs.Operations.{table-answer, gap-answer};
 ghost use Rattle.rebuild_answers.specs.Operations.{rebuild-answer, guided-answer};
 ghost use Rattle.rebuild_answers.specs.Meanings.{RebuildMeans, GuidedMeans};
@@ -18,20 +19,8 @@ ghost use Rattle.sheet_trees.specs.Operations.{sheet-bytes-answer};
 ghost use Rattle.sheet_trees.specs.Meanings.{SheetBytesMean};
 ghost use Rattle.newick_rules.specs.Operations.{import-answer, export-answer};
 ghost use Rattle.newick_rules.specs.Meanings.{ImportMeans};
-ghost use Rattle.polls.specs.Operations.{poll-answer};
+ghost use Rattle.poll_rules.specs.Operations.{poll-answer};
 ghost use Rattle.replies.specs.Replies.{reply, number-reply, length-reply, reply-with, number-alone};
-ghost use Rattle.quartree.specs.Entries.{lent-pairing-answer};
-ghost use Rattle.quartree.specs.inner.Questions.{paired-reply};
-
-// The reply of a question.
-fn paired_reply(answer: Paired) -> u64
-    ensures { λ x. ⌜ x ≡ paired-reply answer ⌝ }
-{
-    match answer {
-        Paired::As(code) => replies::in_one(0, code as usize),
-        Paired::Refused(r) => replies::refusal_reply(r),
-    }
-}
 
 // Whether a listing keeps the rules: 1, 2, 7, 8.
 #[no_mangle]
@@ -48,7 +37,7 @@ pub extern "C" fn quartree_standardise(n: usize, listing: &[u16], out: &mut [u16
     ensures buffer { λ r. ⌜ now (out .exit)
         ≡ written (standardise-answer n (now (listing .entry)) (length (now (out .entry)))) (now (out .entry)) ⌝ }
 {
-    replies::reply_of(listings::standardise(n, listing, out))
+    replies::reply_of(standard_listings::standardise(n, listing, out))
 }
 
 // The splits of the tree that a listing stands for, as leaf sets: 1, 2, 3, 7, 8.
@@ -66,14 +55,7 @@ pub extern "C" fn quartree_splits(n: usize, listing: &[u16], out: &mut [u8]) -> 
 pub extern "C" fn quartree_pairing(n: usize, listing: &[u16], question: &[u16]) -> u64
     ensures { λ r. ⌜ r ≡ number-reply (lent-pairing-answer n (now (listing .entry)) (now (question .entry))) ⌝ }
 {
-    if !checks::leaf_count(n) {
-        return 1;
-    }
-    if question.len() != 4 {
-        return 2;
-    }
-    let asked = [question[0], question[1], question[2], question[3]];
-    paired_reply(pairings::pairing(n, listing, asked))
+    pairings::paired_reply(pairings::lent_pairing(n, listing, question))
 }
 
 // The table of the tree that a listing stands for: 1, 2, 3, 7, 8.
@@ -159,9 +141,7 @@ pub extern "C" fn quartree_sheet_name(sheet: &[u8], leaf: usize) -> u64
         ≡ reply-with (256 * (name-start (now (sheet .entry)) leaf + 1) + length (name (now (sheet .entry)) leaf))
         (name-answer (now (sheet .entry)) (leaves-of (now (sheet .entry))) (offset-of (now (sheet .entry))) leaf) ⌝ }
 {
-    let place = sheet_names::name_place(sheet, leaf);
-    let outcome = place.outcome;
-    replies::reply_with(replies::two_figures(place.first, place.many), outcome)
+    sheet_names::place_reply(sheet_names::name_place(sheet, leaf))
 }
 
 // The Newick text of the tree that a listing stands for, with the names of a sheet, and its length as the figure: 13,

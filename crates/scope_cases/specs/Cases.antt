@@ -7,7 +7,7 @@ use lib.Dec.{eqb}
 use Rattle.base.specs.Lists.{tab}
 use Rattle.refusals.specs.declared.Refusal.the-variants.{NoTree, Child, NamedBefore, Proposal}
 use Rattle.refusals.specs.Refusals.{Answer, accepted, refused}
-use Rattle.listings.specs.Operations.{standardise-answer}
+use Rattle.standard_listings.specs.Operations.{standardise-answer}
 use Rattle.merging.specs.MergeLists.{Pair}
 use Rattle.rebuild_answers.specs.Operations.{rebuild-answer, guided-answer}
 

@@ -1,26 +1,12 @@
 // Runs sheets: the scope's sheet of five strains, its table and names in it, and names that are as long as may be.
+use case_lines::say;
+use case_lines::say_number;
 use refusals::Outcome;
-use refusals::Refusal;
-
-// What was answered of a sheet, with the leaf where a name is bad.
-fn say(answer: Outcome) {
-    let Outcome::Refused(cause) = answer else {
-        io::write_all(1, b"accepted\n");
-        return;
-    };
-    io::write_all(1, b"refused ");
-    io::print_decimal(1, refusals::number(cause) as u64);
-    if let Refusal::Name(leaf) = cause {
-        io::write_all(1, b" with ");
-        io::print_decimal(1, leaf as u64);
-    }
-    io::write_all(1, b"\n");
-}
 
 // The name of a leaf, or why there is none.
 fn say_name(name: &[u8], answer: Outcome) {
     let Outcome::Done = answer else {
-        say(answer);
+        say(b"", answer);
         return;
     };
     io::write_all(1, name);
@@ -35,9 +21,7 @@ fn show_name(bytes: &[u8], leaf: usize) {
 }
 
 fn say_cell(what: &[u8], cell: u32) {
-    io::write_all(1, what);
-    io::print_decimal(1, cell as u64);
-    io::write_all(1, b"\n");
+    say_number(what, cell as u64);
 }
 
 // The scope's sheet of five strains: its table, and names in it.
@@ -45,11 +29,11 @@ fn sheet_of_five() {
     let sheet =
         b"\x01a\x01b\x01c\x01d\x01e\x03\0\x01\0\0\0\0\0\x01\0\0\0\0\0\x01\0\x01\0\x03\0\x05\0\x0A\0\0\0QT";
     let mut cells = [9u32; 25];
-    io::write_all(1, b"table of the sheet of five strains: ");
-    say(sheet_tables::sheet_table(sheet, &mut cells));
-    io::write_all(1, b"its leaf count: ");
-    io::print_decimal(1, sheets::leaf_count_of(sheet) as u64);
-    io::write_all(1, b"\n");
+    say(
+        b"table of the sheet of five strains: ",
+        sheet_tables::sheet_table(sheet, &mut cells),
+    );
+    say_number(b"its leaf count: ", sheets::leaf_count_of(sheet) as u64);
     say_cell(b"cell (0,1): ", cells[1]);
     say_cell(b"cell (1,0): ", cells[5]);
     say_cell(b"cell (2,4): ", cells[14]);
@@ -66,10 +50,8 @@ fn name_lengths() {
         b"\x01a\x28bbbbbbbbbbbbbbbbbbbbbbbbbbbbbbbbbbbbbbbb\x01c\0\0\0\0\0\0\x03\0\x2D\0\0\0QT";
     let one_more =
         b"\x01a\x29bbbbbbbbbbbbbbbbbbbbbbbbbbbbbbbbbbbbbbbbb\x01c\0\0\0\0\0\0\x03\0\x2E\0\0\0QT";
-    io::write_all(1, b"a name of 40 bytes: ");
-    say(sheets::check_sheet(forty));
-    io::write_all(1, b"a name of 41 bytes: ");
-    say(sheets::check_sheet(one_more));
+    say(b"a name of 40 bytes: ", sheets::check_sheet(forty));
+    say(b"a name of 41 bytes: ", sheets::check_sheet(one_more));
 }
 
 fn main() {

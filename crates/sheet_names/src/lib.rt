@@ -10,6 +10,7 @@ ghost use Rattle.refusals.specs.Refusals.{outcome};
 ghost use Rattle.sheet_rules.specs.Sheets.{name-start, name};
 ghost use Rattle.sheet_names.specs.Operations.{name-answer, shown, name-place-answer};
 ghost use Rattle.sheet_names.specs.inner.Shown.{shown-if};
+ghost use Rattle.sheet_names.specs.inner.Replies.{place-reply};
 
 // A strain's name as the bytes of the sheet themselves, and whether it is refused: then there are no bytes.
 pub struct Named<'a> {
@@ -103,4 +104,13 @@ pub fn name_place(sheet: &[u8], leaf: usize) -> NamePlace
         many: index_of_u8(sheet[at]),
         outcome,
     }
+}
+
+// The reply of a C call with this answer: 256 times the place of the first byte, and the length, are the figure. For
+// the crates above.
+pub fn place_reply(place: NamePlace) -> u64
+    ensures { λ r. ⌜ r ≡ place-reply place ⌝ }
+{
+    let outcome = place.outcome;
+    replies::reply_with(replies::two_figures(place.first, place.many), outcome)
 }

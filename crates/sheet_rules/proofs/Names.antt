@@ -1,5 +1,6 @@
 -- Names in a sheet: equal names, where names start, and when the name at a place is good.
 use mathlib.Core.Path.{_≡_, refl, ap, _∙_}
+use mathlib.Core.Logic.{inl, inr}
 use mathlib.Core.Bool.{Bool, true, false, _&&_, and-false}
 use mathlib.Core.List.{List, [], _∷_, _++_}
 use Prim.Native.Nat.{ℕ, zero, suc, _+_, _≤_, _<_}
@@ -11,11 +12,11 @@ use lib.Dec.{leb, ltb, eqb}
 use lib.ListN.{length, getD, take, drop, length-drop}
 use lib.Seq.{length-take-le, take-add, drop-cons}
 use Rattle.base.specs.Lists.{tab, any-in, all-in}
-use Rattle.base.proofs.Bools.{is-false, and-both, and-is, eqb-same, never}
+use Rattle.base.proofs.Bools.{bool?, is-false, and-both, and-is, eqb-same, never}
 use Rattle.base.proofs.Lists.{length-tab, getD-tab, any-append}
 use Rattle.sheet_rules.specs.Sheets.{longest-name, name-at, next-name, name-start, name, between, name-byte}
 use Rattle.sheet_rules.specs.Sheets.{is-name}
-use Rattle.sheet_rules.specs.Sheets.{same}
+use Rattle.sheet_rules.specs.Sheets.{same, leaf-named}
 use Rattle.sheet_rules.specs.Sheets.{leaves-of, names-of}
 use Rattle.sheet_rules.specs.Operations.{good-at}
 
@@ -39,6 +40,16 @@ same-self (x ∷ l) = and-is _ _ (eqb-same x) (same-self l)
 -- names of two lengths are not equal
 pub same-lengths : (l m : List ℕ) → (length l ≡ length m → ⊥) → same l m ≡ false
 same-lengths l m h = is-false (same l m) (λ t. h (ap length (same-is l m t)))
+
+-- a name that is none of those known is their number's
+pub named-none :
+    (known : List (List ℕ)) (x : List ℕ) → any-in (same x) known ≡ false → leaf-named known x ≡ length known
+unfolding any-in leaf-named
+named-none [] x h = refl
+named-none (y ∷ l) x h = elim (bool? (same x y)) [
+  | inl t ↦ absurd (never (rw t) h)
+  | inr f ↦ rw (f, named-none l x (rw f at h))
+]
 
 start-mono : (S : List ℕ) (i j : ℕ) → i ≤ j → name-start S i ≤ name-start S j
 unfolding name-start

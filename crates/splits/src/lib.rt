@@ -19,7 +19,7 @@ pub fn splits(n: usize, listing: &[u16], out: &mut [u8]) -> Outcome
         return judged;
     };
     let mut rows = [0u16; limits::MOST_NUMBERS];
-    listings::standardise(n, listing, &mut rows);
+    standard_listings::standardise(n, listing, &mut rows);
     let end = 2 * (n - 2);
     writing::write_splits(n, &rows[..end], out);
     judged

@@ -11,12 +11,6 @@ use Rattle.checks.proofs.Sizes.{is-count, count-wrong}
 use Rattle.checks.proofs.numbers_due.Statement.{statement}
 use Rattle.checks.proofs.numbers_due.Tie as tie
 
-index-of-u8-requires : tie.Need-index-of-u8-requires
-index-of-u8-requires c κs = search needs
-
-leaf-count-requires : tie.Need-leaf-count-requires
-leaf-count-requires c κs = search needs
-
 returns : tie.Need-returns
 returns c = λ h. absurd (count-wrong Counts _ (sym (c .before .leaf-count .ensures) ∙ not-true _ (c .if1 .taken)) h)
 
@@ -30,9 +24,6 @@ returns-2 c =
 -- the leaf count passed its test
 count : (c : tie.Else1) → IsLeafCount (c .before .before .before .args .n)
 count c = is-count Counts _ (sym (c .before .leaf-count .ensures) ∙ not-false _ (c .if1 .left))
-
-index-of-u8-requires-2 : tie.Need-index-of-u8-requires-2
-index-of-u8-requires-2 c κs = search needs
 
 mul-result : tie.Need-mul-result
 mul-result c =
@@ -49,10 +40,9 @@ pub numbers-due-spec : {M : Type 1} → statement M
 numbers-due-spec =
     tie.close
     (tie.spec
-    index-of-u8-requires
-    leaf-count-requires
+    (λ c κs. search needs) (λ c κs. search needs)
     returns
     returns-2
-    index-of-u8-requires-2
+    (λ c κs. search needs)
     mul-result
     returns-3)

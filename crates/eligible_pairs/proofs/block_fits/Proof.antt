@@ -29,18 +29,6 @@ abbrev μ-loop : tie.MeasureT-loop
 loop-holds : tie.Need-loop-holds Inv-loop μ-loop
 loop-holds c = (omega arith, λ i l. absurd (omega arith))
 
-mul-if1 : tie.Need-mul-if1 Inv-loop μ-loop
-mul-if1 c = search needs
-
-element-copy-out-if1 : tie.Need-element-copy-out-if1 Inv-loop μ-loop
-element-copy-out-if1 c = search needs
-
-mul-row-wrong : tie.Need-mul-row-wrong Inv-loop μ-loop
-mul-row-wrong c = search needs
-
-element-copy-out-row-wrong : tie.Need-element-copy-out-row-wrong Inv-loop μ-loop
-element-copy-out-row-wrong c = search needs
-
 add-row-wrong : tie.Need-add-row-wrong Inv-loop μ-loop
 add-row-wrong c =
     let l = c .before .before .before .before in
@@ -57,12 +45,6 @@ returns c =
     let x = c .before .before .before .before .before .before .loop .x in
     says-no (λ w. c .if2 .taken (c .before .row-wrong .ensures
     ∙ right-row _ _ _ _ x _ _ (λ y l q. w x y (omega arith) l (c .before .before .before .if1 .taken) q)))
-
-add-x : tie.Need-add-x Inv-loop μ-loop
-add-x c = search needs
-
-loop-less : tie.Need-loop-less Inv-loop μ-loop
-loop-less c = search needs
 
 loop-again : tie.Need-loop-again Inv-loop μ-loop
 loop-again c = (
@@ -83,14 +65,10 @@ block-fits-spec =
     Inv-loop
     μ-loop
     loop-holds
-    mul-if1
-    element-copy-out-if1
-    mul-row-wrong
-    element-copy-out-row-wrong
+    (λ c. search needs) (λ c. search needs) (λ c. search needs) (λ c. search needs)
     add-row-wrong
     row-wrong-requires
     returns
-    add-x
-    loop-less
+    (λ c. search needs) (λ c. search needs)
     loop-again
     returns-2)

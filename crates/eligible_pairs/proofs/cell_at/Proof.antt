@@ -13,12 +13,6 @@ use Rattle.eligible_pairs.proofs.Lent.{as-packed, as-cells, packed-cell
 use Rattle.eligible_pairs.proofs.cell_at.Statement.{statement}
 use Rattle.eligible_pairs.proofs.cell_at.Tie as tie
 
-is-packed-requires : tie.Need-is-packed-requires
-is-packed-requires c κs = search needs
-
-cell-requires : tie.Need-cell-requires
-cell-requires c κs = search needs
-
 returns : tie.Need-returns
 returns c =
     let a = c .before .before .before .before .before .args in
@@ -67,8 +61,7 @@ pub cell-at-spec : {M : Type 1} → statement M
 cell-at-spec =
     tie.close
     (tie.spec
-    is-packed-requires
-    cell-requires
+    (λ c κs. search needs) (λ c κs. search needs)
     returns
     mul-result
     add-result

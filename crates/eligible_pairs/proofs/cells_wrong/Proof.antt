@@ -22,31 +22,10 @@ loop-holds : tie.Need-loop-holds Inv-loop μ-loop
 unfolding count-below
 loop-holds c = (omega arith, refl)
 
-mul-wrong : tie.Need-mul-wrong Inv-loop μ-loop
-mul-wrong c = search needs
-
-element-copy-out-wrong : tie.Need-element-copy-out-wrong Inv-loop μ-loop
-element-copy-out-wrong c = search needs
-
-mul-wrong-2 : tie.Need-mul-wrong-2 Inv-loop μ-loop
-mul-wrong-2 c = search needs
-
-shared-slice-read-wrong : tie.Need-shared-slice-read-wrong Inv-loop μ-loop
-shared-slice-read-wrong c = search needs
-
-mul-wrong-3 : tie.Need-mul-wrong-3 Inv-loop μ-loop
-mul-wrong-3 c = search needs
-
-element-copy-out-wrong-2 : tie.Need-element-copy-out-wrong-2 Inv-loop μ-loop
-element-copy-out-wrong-2 c = search needs
-
 add-wrong : tie.Need-add-wrong Inv-loop μ-loop
 add-wrong c =
     let l = c .before .before .before .before in
     omega (arith, P-most, l .before .before .pre .2 (l .loop .y) (omega arith))
-
-wrong-requires : tie.Need-wrong-requires Inv-loop μ-loop
-wrong-requires c κs = search needs
 
 add-bad : tie.Need-add-bad Inv-loop μ-loop
 unfolding mismatch-in
@@ -59,12 +38,6 @@ add-bad c =
       count-turn f (l .y) (l .bad) (c .wrong .result) (l .inv .1) (c .wrong .ensures),
       count-le (l .y + 1) f,
     )
-
-add-y : tie.Need-add-y Inv-loop μ-loop
-add-y c = search needs
-
-loop-less : tie.Need-loop-less Inv-loop μ-loop
-loop-less c = search needs
 
 loop-again : tie.Need-loop-again Inv-loop μ-loop
 unfolding mismatch-in
@@ -86,16 +59,11 @@ cells-wrong-spec =
     Inv-loop
     μ-loop
     loop-holds
-    mul-wrong
-    element-copy-out-wrong
-    mul-wrong-2
-    shared-slice-read-wrong
-    mul-wrong-3
-    element-copy-out-wrong-2
+    (λ c. search needs) (λ c. search needs) (λ c. search needs) (λ c. search needs) (λ c. search needs)
+    (λ c. search needs)
     add-wrong
-    wrong-requires
+    (λ c κs. search needs)
     add-bad
-    add-y
-    loop-less
+    (λ c. search needs) (λ c. search needs)
     loop-again
     returns)

@@ -11,15 +11,6 @@ use Rattle.eligible_pairs.proofs.Lent.{packed-row-is, row-counts}
 use Rattle.eligible_pairs.proofs.packed_wrong.Statement.{statement}
 use Rattle.eligible_pairs.proofs.packed_wrong.Tie as tie
 
-slice-aggregate-write-row : tie.Need-slice-aggregate-write-row
-slice-aggregate-write-row c = search needs
-
-write-row-requires : tie.Need-write-row-requires
-write-row-requires c κs = search needs
-
-array-share-prefix-row : tie.Need-array-share-prefix-row
-array-share-prefix-row c = search needs
-
 -- the buffer is as long as before
 long : (c : tie.After-write-row) → length (c .write-row .last .1 .1 .1 .0) ≡ most-leaves
 long c =
@@ -55,9 +46,7 @@ pub packed-wrong-spec : {M : Type 1} → statement M
 packed-wrong-spec =
     tie.close
     (tie.spec
-    slice-aggregate-write-row
-    write-row-requires
-    array-share-prefix-row
+    (λ c. search needs) (λ c κs. search needs) (λ c. search needs)
     slice-aggregate-cells-wrong
     cells-wrong-requires
     returns)

@@ -12,9 +12,6 @@ use Rattle.eligible_pairs.proofs.Lent.{as-packed, as-cells, row-is, row
 use Rattle.eligible_pairs.proofs.row_wrong.Statement.{statement}
 use Rattle.eligible_pairs.proofs.row_wrong.Tie as tie
 
-is-packed-requires : tie.Need-is-packed-requires
-is-packed-requires c κs = search needs
-
 packed-wrong-requires : tie.Need-packed-wrong-requires
 packed-wrong-requires c κs =
     let s = c .before .before .before .before in
@@ -51,17 +48,8 @@ add-end c = omega (arith, ends c)
 mul-cells-wrong : tie.Need-mul-cells-wrong
 mul-cells-wrong c = omega (arith, ends c)
 
-sub-cells-wrong : tie.Need-sub-cells-wrong
-sub-cells-wrong c = search needs
-
-part-cells-wrong-start : tie.Need-part-cells-wrong-start
-part-cells-wrong-start c = search needs
-
 part-cells-wrong-end : tie.Need-part-cells-wrong-end
 part-cells-wrong-end c = omega (arith, ends c)
-
-cells-wrong-requires : tie.Need-cells-wrong-requires
-cells-wrong-requires c κs = search needs
 
 returns-2 : tie.Need-returns-2
 returns-2 c =
@@ -74,14 +62,13 @@ pub row-wrong-spec : {M : Type 1} → statement M
 row-wrong-spec =
     tie.close
     (tie.spec
-    is-packed-requires
+    (λ c κs. search needs)
     packed-wrong-requires
     returns
     mul-at
     add-end
     mul-cells-wrong
-    sub-cells-wrong
-    part-cells-wrong-start
+    (λ c. search needs) (λ c. search needs)
     part-cells-wrong-end
-    cells-wrong-requires
+    (λ c κs. search needs)
     returns-2)

@@ -22,9 +22,6 @@ Inv-loop n table merges label₀ m₀ sizes₀ p steps k₀ label m sizes k =
 abbrev μ-loop : tie.MeasureT-loop
 μ-loop n table merges label₀ m₀ sizes₀ p steps k₀ label m sizes k = steps - k
 
-sub-steps : tie.Need-sub-steps Inv-loop μ-loop
-sub-steps c = search needs
-
 loop-holds : tie.Need-loop-holds Inv-loop μ-loop
 loop-holds c =
     let s = c .before .before in
@@ -62,9 +59,6 @@ returns c =
 add-k : tie.Need-add-k Inv-loop μ-loop
 add-k c = omega (arith, c .before .before .before .before .before .before .before .before .loop .inv .0 .leaf-count)
 
-loop-less : tie.Need-loop-less Inv-loop μ-loop
-loop-less c = search needs
-
 loop-again : tie.Need-loop-again Inv-loop μ-loop
 loop-again c =
     let read = c .before .before .before .before .before in
@@ -86,7 +80,7 @@ accepted-steps-spec =
     (tie.spec
     Inv-loop
     μ-loop
-    sub-steps
+    (λ c. search needs)
     loop-holds
     mul-leaf-at
     leaf-at-requires
@@ -96,6 +90,6 @@ accepted-steps-spec =
     propose-requires
     returns
     add-k
-    loop-less
+    (λ c. search needs)
     loop-again
     returns-2)

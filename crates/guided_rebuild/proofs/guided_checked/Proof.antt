@@ -10,9 +10,6 @@ use Rattle.guided_rebuild.proofs.Proposals.{guided-at, guided-whole}
 use Rattle.guided_rebuild.proofs.guided_checked.Statement.{statement}
 use Rattle.guided_rebuild.proofs.guided_checked.Tie as tie
 
-scaled-counts-requires : tie.Need-scaled-counts-requires
-scaled-counts-requires c κs = search needs
-
 -- what the proposals are tried on, at the scale that is asked for
 given :
     (c : tie.After-scaled-counts)
@@ -23,12 +20,6 @@ given c =
     let s = c .before .before .before .before in
     counts-given _ (s .args .scale) _ _ (s .pre .0) (s .pre .1) (s .pre .2) (c .scaled-counts .ensures)
 
-slice-aggregate-own-numbers : tie.Need-slice-aggregate-own-numbers
-slice-aggregate-own-numbers c = search needs
-
-own-numbers-requires : tie.Need-own-numbers-requires
-own-numbers-requires c κs = search needs
-
 accepted-steps-requires : tie.Need-accepted-steps-requires
 accepted-steps-requires c κs =
     let labelled = c .before .before .before .before .before in
@@ -38,9 +29,6 @@ accepted-steps-requires c κs =
       s .pre .4,
       record { came = halt; holds = holds-start (s .args .n) (s .pre .0 .1) (labelled .own-numbers .ensures) },
     )
-
-sub-if1 : tie.Need-sub-if1
-sub-if1 c = search needs
 
 -- the place before the proposals
 abbrev counted : tie.After-accepted-steps → tie.After-scaled-counts
@@ -54,16 +42,10 @@ returns c =
     let e = rw (given (counted tried) .0) at at-step in
     (rw e, rw e)
 
-slice-aggregate-rebuild-checked : tie.Need-slice-aggregate-rebuild-checked
-slice-aggregate-rebuild-checked c = search needs
-
 rebuild-checked-requires : tie.Need-rebuild-checked-requires
 rebuild-checked-requires c κs =
     let s = counted (c .before .before .before) .before .before .before .before in
     (s .pre .0, s .pre .1, rw (no-bytes (s .args .n) (s .args .table .now)) (s .pre .2), s .pre .3)
-
-same-length : tie.Need-same-length
-same-length c = search needs
 
 returns-2 : tie.Need-returns-2
 returns-2 c =
@@ -81,13 +63,11 @@ pub guided-checked-spec : {M : Type 1} → statement M
 guided-checked-spec =
     tie.close
     (tie.spec
-    scaled-counts-requires
-    slice-aggregate-own-numbers
-    own-numbers-requires
+    (λ c κs. search needs) (λ c. search needs) (λ c κs. search needs)
     accepted-steps-requires
-    sub-if1
+    (λ c. search needs)
     returns
-    slice-aggregate-rebuild-checked
+    (λ c. search needs)
     rebuild-checked-requires
-    same-length
+    (λ c. search needs)
     returns-2)

@@ -11,24 +11,6 @@ returns c = proposal-refused (λ S s e. omega (arith, e .left, c .if1 .taken))
 returns-2 : tie.Need-returns-2
 returns-2 c = proposal-refused (λ S s e. omega (arith, e .right, c .if2 .taken))
 
-mul-index-of-u32 : tie.Need-mul-index-of-u32
-mul-index-of-u32 c = search needs
-
-element-copy-out-index-of-u32 : tie.Need-element-copy-out-index-of-u32
-element-copy-out-index-of-u32 c = search needs
-
-index-of-u32-requires : tie.Need-index-of-u32-requires
-index-of-u32-requires c κs = search needs
-
-mul-index-of-u32-2 : tie.Need-mul-index-of-u32-2
-mul-index-of-u32-2 c = search needs
-
-element-copy-out-index-of-u32-2 : tie.Need-element-copy-out-index-of-u32-2
-element-copy-out-index-of-u32-2 c = search needs
-
-index-of-u32-requires-2 : tie.Need-index-of-u32-requires-2
-index-of-u32-requires-2 c κs = search needs
-
 try-merge-requires : tie.Need-try-merge-requires
 try-merge-requires c κs =
     let inside = c .before .before .before .before .before .before .before in
@@ -51,11 +33,7 @@ propose-spec =
     (tie.spec
     returns
     returns-2
-    mul-index-of-u32
-    element-copy-out-index-of-u32
-    index-of-u32-requires
-    mul-index-of-u32-2
-    element-copy-out-index-of-u32-2
-    index-of-u32-requires-2
+    (λ c. search needs) (λ c. search needs) (λ c κs. search needs) (λ c. search needs) (λ c. search needs)
+    (λ c κs. search needs)
     try-merge-requires
     returns-3)

@@ -18,17 +18,8 @@ use Rattle.rebuild_answers.proofs.Promises.{guided-gives}
 use Rattle.guided_rebuild.proofs.rebuild_guided.Statement.{statement}
 use Rattle.guided_rebuild.proofs.rebuild_guided.Tie as tie
 
-numbers-due-requires : tie.Need-numbers-due-requires
-numbers-due-requires c κs = search needs
-
-judge-input-requires : tie.Need-judge-input-requires
-judge-input-requires c κs = search needs
-
 enum-told : tie.Need-enum-told
 enum-told c = search needs
-
-enum-told-2 : tie.Need-enum-told-2
-enum-told-2 c = search needs
 
 -- what was judged of the sizes
 sized :
@@ -44,15 +35,6 @@ unfolding guided-answer guided-refusal
 returns c =
     let h = c .enum-told2 .given .1 in
     guided-gives _ _ _ _ outcome (unless-told _ _ _ _ _ (go-stops _ (sized (c .before .before)) _ h) h)
-
-judge-for-rows-requires : tie.Need-judge-for-rows-requires
-judge-for-rows-requires c κs = search needs
-
-enum-told-3 : tie.Need-enum-told-3
-enum-told-3 c = search needs
-
-enum-told-4 : tie.Need-enum-told-4
-enum-told-4 c = search needs
 
 -- and of the table
 judged :
@@ -83,9 +65,6 @@ guided-checked-requires c κs =
     let a = accepted-table _ _ _ _ (sizes .1) in
     (a .count, (omega arith, omega arith), a .is-table, a .room-enough, sizes .0)
 
-same-length : tie.Need-same-length
-same-length c = search needs
-
 returns-3 : tie.Need-returns-3
 unfolding guided-answer
 returns-3 c =
@@ -96,15 +75,12 @@ pub rebuild-guided-spec : {M : Type 1} → statement M
 rebuild-guided-spec =
     tie.close
     (tie.spec
-    numbers-due-requires
-    judge-input-requires
+    (λ c κs. search needs) (λ c κs. search needs)
     enum-told
-    enum-told-2
+    (λ c. search needs)
     returns
-    judge-for-rows-requires
-    enum-told-3
-    enum-told-4
+    (λ c κs. search needs) (λ c. search needs) (λ c. search needs)
     returns-2
     guided-checked-requires
-    same-length
+    (λ c. search needs)
     returns-3)

@@ -17,9 +17,6 @@ use Rattle.guided_rebuild.proofs.try_merge.Tie as tie
 returns : tie.Need-returns
 returns c = proposal-refused (λ S s. one-label (c .before .before .pre) s (c .if1 .taken))
 
-slice-aggregate-pair-fits : tie.Need-slice-aggregate-pair-fits
-slice-aggregate-pair-fits c = search needs
-
 pair-fits-requires : tie.Need-pair-fits-requires
 pair-fits-requires c κs =
     let differ = c .before .before .before .before in
@@ -77,7 +74,7 @@ try-merge-spec =
     tie.close
     (tie.spec
     returns
-    slice-aggregate-pair-fits
+    (λ c. search needs)
     pair-fits-requires
     returns-2
     merge-requires

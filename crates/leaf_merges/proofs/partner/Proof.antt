@@ -18,23 +18,8 @@ Inv-loop n table packed label m sizes p a b₀ b =
 abbrev μ-loop : tie.MeasureT-loop
 μ-loop n table packed label m sizes p a b₀ b = n - b
 
-add-b : tie.Need-add-b Inv-loop μ-loop
-add-b c = search needs
-
 loop-holds : tie.Need-loop-holds Inv-loop μ-loop
 loop-holds c = (omega arith, omega arith, λ i l al. absurd (omega arith))
-
-mul-index-of-u32 : tie.Need-mul-index-of-u32 Inv-loop μ-loop
-mul-index-of-u32 c = search needs
-
-element-copy-out-index-of-u32 : tie.Need-element-copy-out-index-of-u32 Inv-loop μ-loop
-element-copy-out-index-of-u32 c = search needs
-
-index-of-u32-requires : tie.Need-index-of-u32-requires Inv-loop μ-loop
-index-of-u32-requires c κs = search needs
-
-pair-fits-requires : tie.Need-pair-fits-requires Inv-loop μ-loop
-pair-fits-requires c κs = search needs
 
 returns : tie.Need-returns Inv-loop μ-loop
 returns c =
@@ -46,12 +31,6 @@ returns c =
       hit = λ l. (omega arith, (own, fit .pair-fits .ensures .0 (c .if2 .taken)));
       miss = λ l. absurd (omega arith);
     }
-
-add-b-2 : tie.Need-add-b-2 Inv-loop μ-loop
-add-b-2 c = search needs
-
-loop-less : tie.Need-loop-less Inv-loop μ-loop
-loop-less c = search needs
 
 loop-again : tie.Need-loop-again Inv-loop μ-loop
 loop-again c =
@@ -77,14 +56,10 @@ partner-spec =
     (tie.spec
     Inv-loop
     μ-loop
-    add-b
+    (λ c. search needs)
     loop-holds
-    mul-index-of-u32
-    element-copy-out-index-of-u32
-    index-of-u32-requires
-    pair-fits-requires
+    (λ c. search needs) (λ c. search needs) (λ c κs. search needs) (λ c κs. search needs)
     returns
-    add-b-2
-    loop-less
+    (λ c. search needs) (λ c. search needs)
     loop-again
     returns-2)

@@ -26,12 +26,6 @@ known c =
       pairs-small (s .args .n) (s .pre .0 .leaf-count .1),
     )
 
-sub-row-at : tie.Need-sub-row-at
-sub-row-at c = search needs
-
-row-at-requires : tie.Need-row-at-requires
-row-at-requires c κs = search needs
-
 mul-width : tie.Need-mul-width
 mul-width c = omega (arith, known c)
 
@@ -85,8 +79,7 @@ pub children-of-spec : {M : Type 1} → statement M
 children-of-spec =
     tie.close
     (tie.spec
-    sub-row-at
-    row-at-requires
+    (λ c. search needs) (λ c κs. search needs)
     mul-width
     element-copy-out-width
     mul-other

@@ -38,12 +38,6 @@ loop-holds c =
           getD-replicate {A = ℕ} most-nodes i 1 0 (omega (arith, s .pre .0 .1)) ∙ (unfold size in refl))),
     )
 
-sub-loop : tie.Need-sub-loop Inv-loop μ-loop
-sub-loop c = search needs
-
-row-at-requires : tie.Need-row-at-requires Inv-loop μ-loop
-row-at-requires c κs = search needs
-
 mul-sizes : tie.Need-mul-sizes Inv-loop μ-loop
 mul-sizes c = omega (arith, this c .first-before, c .before .before .before .before .pre .0 .1)
 
@@ -68,21 +62,6 @@ add-sizes c =
       s .pre .0 .1,
     ))
 
-add-sizes-2 : tie.Need-add-sizes-2 Inv-loop μ-loop
-add-sizes-2 c = search needs
-
-mul-sizes-3 : tie.Need-mul-sizes-3 Inv-loop μ-loop
-mul-sizes-3 c = search needs
-
-element-write-sizes : tie.Need-element-write-sizes Inv-loop μ-loop
-element-write-sizes c = search needs
-
-add-k : tie.Need-add-k Inv-loop μ-loop
-add-k c = search needs
-
-loop-less : tie.Need-loop-less Inv-loop μ-loop
-loop-less c = search needs
-
 loop-again : tie.Need-loop-again Inv-loop μ-loop
 loop-again c =
     let i = c .before .before .before .before .loop in
@@ -103,17 +82,12 @@ count-leaves-spec =
     Inv-loop
     μ-loop
     loop-holds
-    sub-loop
-    row-at-requires
+    (λ c. search needs) (λ c κs. search needs)
     mul-sizes
     element-copy-out-sizes
     mul-sizes-2
     element-copy-out-sizes-2
     add-sizes
-    add-sizes-2
-    mul-sizes-3
-    element-write-sizes
-    add-k
-    loop-less
+    (λ c. search needs) (λ c. search needs) (λ c. search needs) (λ c. search needs) (λ c. search needs)
     loop-again
     returns)

@@ -44,9 +44,6 @@ small c =
     let b = c .before .before in
     omega (arith, own b .inside (c .before .loop .j) (omega arith), own b .few)
 
-count-leaves-requires : tie.Need-count-leaves-requires Inv-loop μ-loop
-count-leaves-requires c κs = search needs
-
 place-numbers-requires : tie.Need-place-numbers-requires Inv-loop μ-loop
 place-numbers-requires c κs =
     let p = c .before .before .before .before .before .before .before .pre in (
@@ -61,35 +58,17 @@ loop-holds c =
     let p = c .before .before .before .before .before .before .before .before .pre in
     (omega arith, p .4, p .5, λ k h. absurd (omega arith))
 
-mul-p : tie.Need-mul-p Inv-loop μ-loop
-mul-p c = search needs
-
-element-copy-out-p : tie.Need-element-copy-out-p Inv-loop μ-loop
-element-copy-out-p c = search needs
-
 mul-order : tie.Need-mul-order Inv-loop μ-loop
 mul-order c = omega (arith, small (c .before))
 
 element-write-order : tie.Need-element-write-order Inv-loop μ-loop
 element-write-order c = omega (arith, small (c .before))
 
-mul-depths : tie.Need-mul-depths Inv-loop μ-loop
-mul-depths c = search needs
-
-array-read-depths : tie.Need-array-read-depths Inv-loop μ-loop
-array-read-depths c = search needs
-
 mul-depths-2 : tie.Need-mul-depths-2 Inv-loop μ-loop
 mul-depths-2 c = omega (arith, small (c .before))
 
 element-write-depths : tie.Need-element-write-depths Inv-loop μ-loop
 element-write-depths c = omega (arith, small (c .before))
-
-add-j : tie.Need-add-j Inv-loop μ-loop
-add-j c = search needs
-
-loop-less : tie.Need-loop-less Inv-loop μ-loop
-loop-less c = search needs
 
 loop-again : tie.Need-loop-again Inv-loop μ-loop
 loop-again c =
@@ -117,18 +96,15 @@ leaf-order-spec =
     (tie.spec
     Inv-loop
     μ-loop
-    count-leaves-requires
+    (λ c κs. search needs)
     place-numbers-requires
     loop-holds
-    mul-p
-    element-copy-out-p
+    (λ c. search needs) (λ c. search needs)
     mul-order
     element-write-order
-    mul-depths
-    array-read-depths
+    (λ c. search needs) (λ c. search needs)
     mul-depths-2
     element-write-depths
-    add-j
-    loop-less
+    (λ c. search needs) (λ c. search needs)
     loop-again
     returns)

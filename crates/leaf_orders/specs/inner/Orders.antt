@@ -9,7 +9,7 @@ use lib.ListN.{length, getD}
 use Rattle.limits.specs.Limits.{most-leaves, most-nodes, most-cells, IsLeafCount}
 use Rattle.pair_counts.specs.Pairs.{P}
 use Rattle.trees.specs.Trees.{Tree, leaf, node, size}
-use Rattle.listings.specs.inner.Standardising.{row-first, row-second}
+use Rattle.listings.specs.inner.Children.{row-first, row-second}
 use Rattle.trees.specs.Listings.{KeepsRules, subtree-at}
 
 -- no sum of pairs that branch off is larger

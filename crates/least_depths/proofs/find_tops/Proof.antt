@@ -8,24 +8,6 @@ use Rattle.least_depths.proofs.LeastDepths.{topped}
 use Rattle.least_depths.proofs.find_tops.Statement.{statement}
 use Rattle.least_depths.proofs.find_tops.Tie as tie
 
-rightwards-requires : tie.Need-rightwards-requires
-rightwards-requires c κs = search needs
-
-leftwards-requires : tie.Need-leftwards-requires
-leftwards-requires c κs = search needs
-
-mul-i : tie.Need-mul-i
-mul-i c = search needs
-
-element-copy-out-i : tie.Need-element-copy-out-i
-element-copy-out-i c = search needs
-
-add-tops : tie.Need-add-tops
-add-tops c = search needs
-
-sub-tops : tie.Need-sub-tops
-sub-tops c = search needs
-
 mul-tops : tie.Need-mul-tops
 mul-tops c =
     let s = c .before .before .before .before .before in
@@ -50,12 +32,8 @@ pub find-tops-spec : {M : Type 1} → statement M
 find-tops-spec =
     tie.close
     (tie.spec
-    rightwards-requires
-    leftwards-requires
-    mul-i
-    element-copy-out-i
-    add-tops
-    sub-tops
+    (λ c κs. search needs) (λ c κs. search needs) (λ c. search needs) (λ c. search needs) (λ c. search needs)
+    (λ c. search needs)
     mul-tops
     element-write-tops
     returns)

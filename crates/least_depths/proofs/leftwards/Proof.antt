@@ -24,20 +24,11 @@ loop-holds : tie.Need-loop-holds Inv-loop μ-loop
 loop-holds c =
     (omega arith, c .pre .2, shallowest-none _ _, λ t a b. absurd (omega arith), λ t a b. refl)
 
-sub-keep-least : tie.Need-sub-keep-least Inv-loop μ-loop
-sub-keep-least c = search needs
-
 keep-least-requires : tie.Need-keep-least-requires Inv-loop μ-loop
 keep-least-requires c κs =
     let i = c .before .before .loop in
     let o = c .before .before .before .pre .0 in
     (omega (arith, o .few), omega (arith, o .few), omega (arith, o .below (i .t - 1) (omega arith), o .few), i .inv .1)
-
-sub-t : tie.Need-sub-t Inv-loop μ-loop
-sub-t c = search needs
-
-loop-less : tie.Need-loop-less Inv-loop μ-loop
-loop-less c = search needs
 
 loop-again : tie.Need-loop-again Inv-loop μ-loop
 loop-again c =
@@ -60,9 +51,8 @@ leftwards-spec =
     Inv-loop
     μ-loop
     loop-holds
-    sub-keep-least
+    (λ c. search needs)
     keep-least-requires
-    sub-t
-    loop-less
+    (λ c. search needs) (λ c. search needs)
     loop-again
     returns)

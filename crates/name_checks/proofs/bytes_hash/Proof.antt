@@ -27,15 +27,6 @@ abbrev μ-loop : tie.MeasureT-loop
 loop-holds : tie.Need-loop-holds Inv-loop μ-loop
 loop-holds c = (omega arith, omega arith, rw rest-all, rw rest-all)
 
-add-x : tie.Need-add-x Inv-loop μ-loop
-add-x c = search needs
-
-shared-slice-read-x : tie.Need-shared-slice-read-x Inv-loop μ-loop
-shared-slice-read-x c = search needs
-
-is-name-byte-requires : tie.Need-is-name-byte-requires Inv-loop μ-loop
-is-name-byte-requires c κs = search needs
-
 returns : tie.Need-returns Inv-loop μ-loop
 returns c =
     let l = c .before .before .before .before in
@@ -43,15 +34,6 @@ returns c =
     let turn = every-turn name-byte (a .sheet .now) (a .at) (a .many) (l .loop .k) (omega arith) (omega arith) in
     let bad = sym (c .before .is-name-byte .ensures) ∙ not-true _ (c .if1 .taken) in
     hash-failed _ (sym (stops _ _ (sym turn ∙ l .loop .inv .2) bad))
-
-hash-byte-requires : tie.Need-hash-byte-requires Inv-loop μ-loop
-hash-byte-requires c κs = search needs
-
-add-k : tie.Need-add-k Inv-loop μ-loop
-add-k c = search needs
-
-loop-less : tie.Need-loop-less Inv-loop μ-loop
-loop-less c = search needs
 
 loop-again : tie.Need-loop-again Inv-loop μ-loop
 loop-again c =
@@ -85,12 +67,8 @@ bytes-hash-spec =
     Inv-loop
     μ-loop
     loop-holds
-    add-x
-    shared-slice-read-x
-    is-name-byte-requires
+    (λ c. search needs) (λ c. search needs) (λ c κs. search needs)
     returns
-    hash-byte-requires
-    add-k
-    loop-less
+    (λ c κs. search needs) (λ c. search needs) (λ c. search needs)
     loop-again
     returns-2)

@@ -28,9 +28,6 @@ abbrev μ-loop : tie.MeasureT-loop
 loop-holds : tie.Need-loop-holds Inv-loop μ-loop
 loop-holds c = (passed-none _ _ _, c .before .pre .3)
 
-name-hash-requires : tie.Need-name-hash-requires Inv-loop μ-loop
-name-hash-requires c κs = search needs
-
 returns : tie.Need-returns Inv-loop μ-loop
 unfolding outcome-of
 returns c =
@@ -69,12 +66,6 @@ returns-2 c =
 next-name-requires : tie.Need-next-name-requires Inv-loop μ-loop
 next-name-requires c κs = omega (arith, good-ends _ _ _ (good (c .before .before .before .before .before) .0))
 
-add-i : tie.Need-add-i Inv-loop μ-loop
-add-i c = search needs
-
-loop-less : tie.Need-loop-less Inv-loop μ-loop
-loop-less c = search needs
-
 loop-again : tie.Need-loop-again Inv-loop μ-loop
 loop-again c =
     let here = c .before .before .before .before .before .before in
@@ -107,13 +98,12 @@ judge-names-spec =
     Inv-loop
     μ-loop
     loop-holds
-    name-hash-requires
+    (λ c κs. search needs)
     returns
     repeats-requires
     returns-2
     next-name-requires
-    add-i
-    loop-less
+    (λ c. search needs) (λ c. search needs)
     loop-again
     returns-3
     returns-4)

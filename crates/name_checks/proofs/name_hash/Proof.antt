@@ -10,18 +10,6 @@ use Rattle.name_checks.proofs.name_hash.Tie as tie
 returns : tie.Need-returns
 returns c = hash-failed _ (good-late _ _ _ (c .if1 .taken))
 
-shared-slice-read-index-of-u8 : tie.Need-shared-slice-read-index-of-u8
-shared-slice-read-index-of-u8 c = search needs
-
-index-of-u8-requires : tie.Need-index-of-u8-requires
-index-of-u8-requires c κs = search needs
-
-add-from : tie.Need-add-from
-add-from c = search needs
-
-sub-if2 : tie.Need-sub-if2
-sub-if2 c = search needs
-
 returns-2 : tie.Need-returns-2
 returns-2 c = hash-failed _ (good-past _ _ _ (omega arith))
 
@@ -30,9 +18,6 @@ returns-3 c = hash-failed _ (good-empty _ _ _ (omega arith) (omega arith))
 
 returns-4 : tie.Need-returns-4
 returns-4 c = hash-failed _ (good-long _ _ _ (omega arith) (omega arith))
-
-bytes-hash-requires : tie.Need-bytes-hash-requires
-bytes-hash-requires c κs = search needs
 
 returns-5 : tie.Need-returns-5
 unfolding name-at
@@ -46,12 +31,9 @@ name-hash-spec =
     tie.close
     (tie.spec
     returns
-    shared-slice-read-index-of-u8
-    index-of-u8-requires
-    add-from
-    sub-if2
+    (λ c. search needs) (λ c κs. search needs) (λ c. search needs) (λ c. search needs)
     returns-2
     returns-3
     returns-4
-    bytes-hash-requires
+    (λ c κs. search needs)
     returns-5)

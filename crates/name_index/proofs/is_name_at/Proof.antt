@@ -9,12 +9,6 @@ use Rattle.sheet_rules.proofs.Names.{same-lengths, name-length}
 use Rattle.name_index.proofs.is_name_at.Statement.{statement}
 use Rattle.name_index.proofs.is_name_at.Tie as tie
 
-shared-slice-read-index-of-u8 : tie.Need-shared-slice-read-index-of-u8
-shared-slice-read-index-of-u8 c = search needs
-
-index-of-u8-requires : tie.Need-index-of-u8-requires
-index-of-u8-requires c κs = search needs
-
 returns : tie.Need-returns
 returns c =
     let a = c .before .before .before .before .before .args in
@@ -23,12 +17,6 @@ returns c =
     let asked = length-take-le (a .many) (drop (a .from) t) (rw (length-drop (a .from) t) (omega arith)) in
     let had = name-length S (a .p) (omega arith) in
     sym (same-lengths (take (a .many) (drop (a .from) t)) (name-at S (a .p)) (λ e. c .if1 .taken (omega (arith, e))))
-
-add-same-parts : tie.Need-add-same-parts
-add-same-parts c = search needs
-
-same-parts-requires : tie.Need-same-parts-requires
-same-parts-requires c κs = search needs
 
 returns-2 : tie.Need-returns-2
 unfolding name-at
@@ -41,9 +29,7 @@ pub is-name-at-spec : {M : Type 1} → statement M
 is-name-at-spec =
     tie.close
     (tie.spec
-    shared-slice-read-index-of-u8
-    index-of-u8-requires
+    (λ c. search needs) (λ c κs. search needs)
     returns
-    add-same-parts
-    same-parts-requires
+    (λ c. search needs) (λ c κs. search needs)
     returns-2)

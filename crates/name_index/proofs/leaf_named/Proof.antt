@@ -16,34 +16,10 @@ Inv-loop sheet k heads before starts text from many hash chain₀ chain =
 abbrev μ-loop : tie.MeasureT-loop
 μ-loop sheet k heads before starts text from many hash chain₀ chain = chain
 
-bucket-requires : tie.Need-bucket-requires Inv-loop μ-loop
-bucket-requires c κs = search needs
-
-mul-index-of-u16 : tie.Need-mul-index-of-u16 Inv-loop μ-loop
-mul-index-of-u16 c = search needs
-
-element-copy-out-index-of-u16 : tie.Need-element-copy-out-index-of-u16 Inv-loop μ-loop
-element-copy-out-index-of-u16 c = search needs
-
-index-of-u16-requires : tie.Need-index-of-u16-requires Inv-loop μ-loop
-index-of-u16-requires c κs = search needs
-
 loop-holds : tie.Need-loop-holds Inv-loop μ-loop
 loop-holds c =
     let s = c .before .before .before .before .before in
     search-starts (s .pre .0) _ (rw (s .pre .2) at (c .before .before .bucket .ensures .0)) (c .index-of-u16 .ensures)
-
-sub-i : tie.Need-sub-i Inv-loop μ-loop
-sub-i c = search needs
-
-mul-index-of-u16-2 : tie.Need-mul-index-of-u16-2 Inv-loop μ-loop
-mul-index-of-u16-2 c = search needs
-
-element-copy-out-index-of-u16-2 : tie.Need-element-copy-out-index-of-u16-2 Inv-loop μ-loop
-element-copy-out-index-of-u16-2 c = search needs
-
-index-of-u16-requires-2 : tie.Need-index-of-u16-requires-2 Inv-loop μ-loop
-index-of-u16-requires-2 c κs = search needs
 
 is-name-at-requires : tie.Need-is-name-at-requires Inv-loop μ-loop
 is-name-at-requires c κs =
@@ -61,15 +37,6 @@ returns c =
     let equal = sym (c .before .is-name-at .ensures) ∙ c .if1 .taken in
     let same-name = rw (index-name (s .pre .0) below (place .index-of-u162 .ensures)) at equal in
     (sym (search-finds (s .pre .0) _ (l .loop .inv) i (omega arith) same-name), omega arith)
-
-mul-index-of-u16-3 : tie.Need-mul-index-of-u16-3 Inv-loop μ-loop
-mul-index-of-u16-3 c = search needs
-
-element-copy-out-index-of-u16-3 : tie.Need-element-copy-out-index-of-u16-3 Inv-loop μ-loop
-element-copy-out-index-of-u16-3 c = search needs
-
-index-of-u16-requires-3 : tie.Need-index-of-u16-requires-3 Inv-loop μ-loop
-index-of-u16-requires-3 c κs = search needs
 
 loop-less : tie.Need-loop-less Inv-loop μ-loop
 loop-less c =
@@ -100,20 +67,12 @@ leaf-named-spec =
     (tie.spec
     Inv-loop
     μ-loop
-    bucket-requires
-    mul-index-of-u16
-    element-copy-out-index-of-u16
-    index-of-u16-requires
+    (λ c κs. search needs) (λ c. search needs) (λ c. search needs) (λ c κs. search needs)
     loop-holds
-    sub-i
-    mul-index-of-u16-2
-    element-copy-out-index-of-u16-2
-    index-of-u16-requires-2
+    (λ c. search needs) (λ c. search needs) (λ c. search needs) (λ c κs. search needs)
     is-name-at-requires
     returns
-    mul-index-of-u16-3
-    element-copy-out-index-of-u16-3
-    index-of-u16-requires-3
+    (λ c. search needs) (λ c. search needs) (λ c κs. search needs)
     loop-less
     loop-again
     returns-2)

@@ -35,15 +35,6 @@ repeated-is c =
     let a = read .before .before .before .args in
     rw (c .leaf-named .ensures .0, asked-name read) (repeated-named (a .sheet .now) (a .i))
 
-add-from : tie.Need-add-from
-add-from c = search needs
-
-shared-slice-read-index-of-u8 : tie.Need-shared-slice-read-index-of-u8
-shared-slice-read-index-of-u8 c = search needs
-
-index-of-u8-requires : tie.Need-index-of-u8-requires
-index-of-u8-requires c κs = search needs
-
 leaf-named-requires : tie.Need-leaf-named-requires
 leaf-named-requires c κs =
     let read = c .before .before .before in
@@ -54,9 +45,6 @@ returns : tie.Need-returns
 returns c =
     let same-name = repeated-is (c .before) ∙ lt-ltb _ _ (c .if1 .taken) in
     (sym same-name, λ new. absurd (never same-name new))
-
-link-requires : tie.Need-link-requires
-link-requires c κs = search needs
 
 returns-2 : tie.Need-returns-2
 returns-2 c =
@@ -72,10 +60,8 @@ pub repeats-spec : {M : Type 1} → statement M
 repeats-spec =
     tie.close
     (tie.spec
-    add-from
-    shared-slice-read-index-of-u8
-    index-of-u8-requires
+    (λ c. search needs) (λ c. search needs) (λ c κs. search needs)
     leaf-named-requires
     returns
-    link-requires
+    (λ c κs. search needs)
     returns-2)

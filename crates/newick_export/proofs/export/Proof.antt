@@ -35,8 +35,7 @@ export-spec =
     (tie.spec
     (λ c κs. search needs)
     judge-export-requires
-    (λ c. search needs)
-    (λ c. search needs)
+    (λ c. search needs) (λ c. search needs)
     returns
     write-text-requires
     (λ c. search needs)

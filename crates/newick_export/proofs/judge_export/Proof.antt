@@ -79,9 +79,7 @@ pub judge-export-spec : {M : Type 1} → statement M
 judge-export-spec =
     tie.close
     (tie.spec
-    (λ c κs. search needs)
-    (λ c. search needs)
-    (λ c. search needs)
+    (λ c κs. search needs) (λ c. search needs) (λ c. search needs)
     returns
     mul-if1
     add-if1

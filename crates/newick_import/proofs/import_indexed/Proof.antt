@@ -84,8 +84,7 @@ import-indexed-spec =
     tie.close
     (tie.spec
     read-text-requires
-    (λ c. search needs)
-    (λ c. search needs)
+    (λ c. search needs) (λ c. search needs)
     returns
     hang-requires
     sub-end

@@ -11,14 +11,8 @@ returns c = search bracket-entered
 returns-2 : tie.Need-returns-2
 returns-2 c = search bracket-too-deep
 
-is-blank-requires : tie.Need-is-blank-requires
-is-blank-requires c κs = search needs
-
 returns-3 : tie.Need-returns-3
 returns-3 c = search due-blank
-
-is-name-byte-requires : tie.Need-is-name-byte-requires
-is-name-byte-requires c κs = search needs
 
 returns-4 : tie.Need-returns-4
 returns-4 c = search name-outside
@@ -35,9 +29,9 @@ entered-spec =
     (tie.spec
     returns
     returns-2
-    is-blank-requires
+    (λ c κs. search needs)
     returns-3
-    is-name-byte-requires
+    (λ c κs. search needs)
     returns-4
     returns-5
     returns-6)

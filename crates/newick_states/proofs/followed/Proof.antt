@@ -24,9 +24,6 @@ returns-5 c = search colon-first
 returns-6 : tie.Need-returns-6
 returns-6 c = search colon-again
 
-is-blank-requires : tie.Need-is-blank-requires
-is-blank-requires c κs = search needs
-
 returns-7 : tie.Need-returns-7
 returns-7 c = search followed-blank
 
@@ -52,7 +49,7 @@ followed-spec =
     returns-4
     returns-5
     returns-6
-    is-blank-requires
+    (λ c κs. search needs)
     returns-7
     returns-8
     returns-9

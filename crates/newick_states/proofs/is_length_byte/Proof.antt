@@ -10,12 +10,6 @@ returns c = search length-below
 returns-2 : tie.Need-returns-2
 returns-2 c = search length-above
 
-cast-result : tie.Need-cast-result
-cast-result c = search needs
-
-shr-result : tie.Need-shr-result
-shr-result c = search needs
-
 returns-3 : tie.Need-returns-3
 returns-3 c = search length-within
 
@@ -25,6 +19,5 @@ is-length-byte-spec =
     (tie.spec
     returns
     returns-2
-    cast-result
-    shr-result
+    (λ c. search needs) (λ c. search needs)
     returns-3)

@@ -5,14 +5,8 @@ use Rattle.newick_states.proofs.Exits.{next-followed}
 use Rattle.newick_states.proofs.moved.Statement.{statement}
 use Rattle.newick_states.proofs.moved.Tie as tie
 
-entered-requires : tie.Need-entered-requires
-entered-requires c κs = search needs
-
 returns : tie.Need-returns
 returns c = search next-due
-
-is-length-byte-requires : tie.Need-is-length-byte-requires
-is-length-byte-requires c κs = search needs
 
 returns-2 : tie.Need-returns-2
 returns-2 c = search next-at-length
@@ -20,17 +14,11 @@ returns-2 c = search next-at-length
 returns-3 : tie.Need-returns-3
 returns-3 c = search next-no-length
 
-is-blank-requires : tie.Need-is-blank-requires
-is-blank-requires c κs = search needs
-
 returns-4 : tie.Need-returns-4
 returns-4 c = search next-ended
 
 returns-5 : tie.Need-returns-5
 returns-5 c = search next-beyond
-
-followed-requires : tie.Need-followed-requires
-followed-requires c κs = search needs
 
 returns-6 : tie.Need-returns-6
 returns-6 c = search next-followed
@@ -39,13 +27,13 @@ pub moved-spec : {M : Type 1} → statement M
 moved-spec =
     tie.close
     (tie.spec
-    entered-requires
+    (λ c κs. search needs)
     returns
-    is-length-byte-requires
+    (λ c κs. search needs)
     returns-2
     returns-3
-    is-blank-requires
+    (λ c κs. search needs)
     returns-4
     returns-5
-    followed-requires
+    (λ c κs. search needs)
     returns-6)

@@ -4,17 +4,11 @@ use Rattle.newick_states.proofs.Exits.{deeper-in, deeper-none, deeper-o
 use Rattle.newick_states.proofs.next_depth.Statement.{statement}
 use Rattle.newick_states.proofs.next_depth.Tie as tie
 
-add-result : tie.Need-add-result
-add-result c = search needs
-
 returns : tie.Need-returns
 returns c = search deeper-in
 
 returns-2 : tie.Need-returns-2
 returns-2 c = search deeper-none
-
-sub-result : tie.Need-sub-result
-sub-result c = search needs
 
 returns-3 : tie.Need-returns-3
 returns-3 c = search deeper-out
@@ -26,9 +20,9 @@ pub next-depth-spec : {M : Type 1} → statement M
 next-depth-spec =
     tie.close
     (tie.spec
-    add-result
+    (λ c. search needs)
     returns
     returns-2
-    sub-result
+    (λ c. search needs)
     returns-3
     returns-4)

@@ -16,7 +16,7 @@ use Rattle.newick_writing.proofs.+put_pair+put_part.Lts-put_pair as put
 use Rattle.newick_writing.proofs.put_part.Reads as put-part
 use Rattle.newick_writing.proofs.put_part.Kinds as put-part-kinds
 use Rattle.newick_writing.proofs.+put_pair+put_part.Lts-put_part as put-part-lts
-use Rattle.listings.proofs.standard.children.Reads as children-reads
+use Rattle.standard_listings.proofs.children.Reads as children-reads
 use Rattle.newick_writing.proofs.put.Reads as put-reads
 use Rattle.newick_writing.proofs.put_name.Reads as put-name-reads
 use Rattle.newick_writing.proofs.+put_pair+put_part.{statement}

@@ -22,33 +22,12 @@ loop-holds : tie.Need-loop-holds Inv-loop μ-loop
 loop-holds c =
     let a = c .args in (omega arith, refl, left-whole (a .sheet .now) (a .from) (a .many) (a .at) (a .text .now))
 
-add-text : tie.Need-add-text Inv-loop μ-loop
-add-text c = search needs
-
-shared-slice-read-text : tie.Need-shared-slice-read-text Inv-loop μ-loop
-shared-slice-read-text c = search needs
-
-add-text-2 : tie.Need-add-text-2 Inv-loop μ-loop
-add-text-2 c = search needs
-
-slice-write-text : tie.Need-slice-write-text Inv-loop μ-loop
-slice-write-text c = search needs
-
-add-k : tie.Need-add-k Inv-loop μ-loop
-add-k c = search needs
-
-loop-less : tie.Need-loop-less Inv-loop μ-loop
-loop-less c = search needs
-
 loop-again : tie.Need-loop-again Inv-loop μ-loop
 loop-again c =
     let a = c .before .before .before .args in
     let l = c .before .before .loop in
     let more = left-more (a .sheet .now) (a .from) (a .many) (a .at) (l .text) (l .k) (omega arith) (omega arith) in
     (omega arith, length-set (l .text) _ _ ∙ l .inv .1, more ∙ l .inv .2)
-
-same-length : tie.Need-same-length Inv-loop μ-loop
-same-length c = search needs
 
 returns : tie.Need-returns Inv-loop μ-loop
 returns c =
@@ -63,12 +42,8 @@ put-bytes-spec =
     Inv-loop
     μ-loop
     loop-holds
-    add-text
-    shared-slice-read-text
-    add-text-2
-    slice-write-text
-    add-k
-    loop-less
+    (λ c. search needs) (λ c. search needs) (λ c. search needs) (λ c. search needs) (λ c. search needs)
+    (λ c. search needs)
     loop-again
-    same-length
+    (λ c. search needs)
     returns)

@@ -45,8 +45,7 @@ write-text-spec =
     (tie.spec
     (λ c κs. search needs)
     put-front-requires
-    (λ c. search needs)
-    (λ c. search needs)
+    (λ c. search needs) (λ c. search needs)
     put-pair-requires
     put-end-requires
     (λ c. search needs)

@@ -6,7 +6,7 @@ use lib.ListN.{length, getD}
 use lib.Seq.{sets}
 use Rattle.limits.specs.Limits.{IsLeafCount, most-leaves}
 use Rattle.trees.specs.Listings.{KeepsRules, tree-of}
-use Rattle.listings.specs.inner.Standardising.{part, standard-first, standard-second, InOrder}
+use Rattle.standard_listings.specs.inner.Standardising.{part, standard-first, standard-second, InOrder}
 use Rattle.sheet_rules.specs.Sheets.{leaves-of, next-name, name-start, name, names-of}
 use Rattle.newick_rules.specs.Reader.{opening, closing, comma, semicolon}
 use Rattle.newick_rules.specs.Exporting.{plain, drawing, exported}

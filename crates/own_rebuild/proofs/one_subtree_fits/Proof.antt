@@ -23,20 +23,8 @@ abbrev μ-loop : tie.MeasureT-loop
 loop-holds : tie.Need-loop-holds Inv-loop μ-loop
 loop-holds c = (omega arith, λ i l z. absurd (omega arith))
 
-mul-if1 : tie.Need-mul-if1 Inv-loop μ-loop
-mul-if1 c = search needs
-
-element-copy-out-if1 : tie.Need-element-copy-out-if1 Inv-loop μ-loop
-element-copy-out-if1 c = search needs
-
 returns : tie.Need-returns Inv-loop μ-loop
 returns c = says-no (λ w. c .if1 .taken (w (c .before .before .before .loop .k) (omega arith) (omega arith) .0))
-
-cell-at-requires : tie.Need-cell-at-requires Inv-loop μ-loop
-cell-at-requires c κs = search needs
-
-mul-expected : tie.Need-mul-expected Inv-loop μ-loop
-mul-expected c = search needs
 
 -- the cell that is read is the table's
 first-cell :
@@ -46,23 +34,11 @@ first-cell :
     ≡ getD (lent-table (a .n) (a .table .now) (a .packed .now)) (c .before .before .before .before .loop .k) 0)
 first-cell c = c .cell-at .ensures ∙ first-row _ _ _
 
-element-copy-out-expected : tie.Need-element-copy-out-expected Inv-loop μ-loop
-element-copy-out-expected c = search needs
-
-as-expected-requires : tie.Need-as-expected-requires Inv-loop μ-loop
-as-expected-requires c κs = search needs
-
 returns-2 : tie.Need-returns-2 Inv-loop μ-loop
 returns-2 c =
     let k = c .before .before .before .before .before .before .before .loop .k in
     let off = unexpected _ _ _ (c .before .as-expected .ensures) (c .if2 .taken) in
     says-no (λ w. off (first-cell (c .before .before .before) ∙ w k (omega arith) (omega arith) .1))
-
-add-k : tie.Need-add-k Inv-loop μ-loop
-add-k c = search needs
-
-loop-less : tie.Need-loop-less Inv-loop μ-loop
-loop-less c = search needs
 
 loop-again : tie.Need-loop-again Inv-loop μ-loop
 loop-again c =
@@ -81,15 +57,10 @@ one-subtree-fits-spec =
     Inv-loop
     μ-loop
     loop-holds
-    mul-if1
-    element-copy-out-if1
+    (λ c. search needs) (λ c. search needs)
     returns
-    cell-at-requires
-    mul-expected
-    element-copy-out-expected
-    as-expected-requires
+    (λ c κs. search needs) (λ c. search needs) (λ c. search needs) (λ c κs. search needs)
     returns-2
-    add-k
-    loop-less
+    (λ c. search needs) (λ c. search needs)
     loop-again
     returns-3)

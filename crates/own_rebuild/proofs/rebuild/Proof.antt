@@ -15,14 +15,8 @@ use Rattle.eligible_pairs.proofs.Lent.{no-bytes}
 use Rattle.own_rebuild.proofs.rebuild.Statement.{statement}
 use Rattle.own_rebuild.proofs.rebuild.Tie as tie
 
-judge-for-rows-requires : tie.Need-judge-for-rows-requires
-judge-for-rows-requires c κs = search needs
-
 enum-told : tie.Need-enum-told
 enum-told c = search needs
-
-enum-told-2 : tie.Need-enum-told-2
-enum-told-2 c = search needs
 
 returns : tie.Need-returns
 unfolding rebuild-answer
@@ -37,9 +31,6 @@ passed :
     table-refusal (a .n) (a .table .now) (2 * (a .n - 2)) (length (a .out .now)) ≡ none
 passed c = call-passed _ (c .before .before .judge-for-rows .ensures) (c .enum-told .given .1)
 
-slice-aggregate-rebuild-checked : tie.Need-slice-aggregate-rebuild-checked
-slice-aggregate-rebuild-checked c = search needs
-
 rebuild-checked-requires : tie.Need-rebuild-checked-requires
 rebuild-checked-requires c κs =
     let told = c .before .before in
@@ -47,9 +38,6 @@ rebuild-checked-requires c κs =
     let a = accepted-table _ _ _ _ (passed told) in
     let meant = no-bytes (s .args .n) (s .args .table .now) in
     (a .count, (omega arith, omega arith), rw meant (a .is-table), a .room-enough)
-
-same-length : tie.Need-same-length
-same-length c = search needs
 
 returns-2 : tie.Need-returns-2
 unfolding rebuild-answer
@@ -64,11 +52,11 @@ pub rebuild-spec : {M : Type 1} → statement M
 rebuild-spec =
     tie.close
     (tie.spec
-    judge-for-rows-requires
+    (λ c κs. search needs)
     enum-told
-    enum-told-2
+    (λ c. search needs)
     returns
-    slice-aggregate-rebuild-checked
+    (λ c. search needs)
     rebuild-checked-requires
-    same-length
+    (λ c. search needs)
     returns-2)

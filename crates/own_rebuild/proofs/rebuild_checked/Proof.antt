@@ -16,9 +16,6 @@ use Rattle.own_rebuild.proofs.Results.{standard-rebuilt, rebuilt-done, 
 use Rattle.own_rebuild.proofs.rebuild_checked.Statement.{statement}
 use Rattle.own_rebuild.proofs.rebuild_checked.Tie as tie
 
-scaled-counts-requires : tie.Need-scaled-counts-requires
-scaled-counts-requires c κs = search needs
-
 -- what the merges are given, at the scale that is asked for
 given :
     (c : tie.After-scaled-counts)
@@ -29,18 +26,6 @@ given c =
     let s = c .before .before .before .before in
     counts-given _ (s .args .scale) _ _ (s .pre .0) (s .pre .1) (s .pre .2) (c .scaled-counts .ensures)
 
-slice-aggregate-own-numbers : tie.Need-slice-aggregate-own-numbers
-slice-aggregate-own-numbers c = search needs
-
-own-numbers-requires : tie.Need-own-numbers-requires
-own-numbers-requires c κs = search needs
-
-slice-aggregate-own-numbers-2 : tie.Need-slice-aggregate-own-numbers-2
-slice-aggregate-own-numbers-2 c = search needs
-
-own-numbers-requires-2 : tie.Need-own-numbers-requires-2
-own-numbers-requires-2 c κs = search needs
-
 merge-leaves-requires : tie.Need-merge-leaves-requires
 merge-leaves-requires c κs =
     let named = c .before .before .before .before .before .before .before in
@@ -50,9 +35,6 @@ merge-leaves-requires c κs =
       given counted .1,
       leaves-merged-start (s .args .n) (s .pre .0 .1) _ (labelled .own-numbers .ensures) (named .own-numbers2 .ensures),
     )
-
-one-subtree-fits-requires : tie.Need-one-subtree-fits-requires
-one-subtree-fits-requires c κs = search needs
 
 -- the places before the merges
 abbrev counted : tie.After-merge-leaves → tie.After-scaled-counts
@@ -83,12 +65,6 @@ slice-aggregate-standardise c =
     let listed = merged .merge-leaves .ensures .all-merged .forest .listed in
     sym (length-take-le _ _ (omega (arith, listed .rows-long, given (counted merged) .1 .leaf-count)))
 
-standardise-requires : tie.Need-standardise-requires
-standardise-requires c κs = search needs
-
-same-length : tie.Need-same-length
-same-length c = search needs
-
 returns-2 : tie.Need-returns-2
 returns-2 c =
     let asked = c .before .before in
@@ -109,18 +85,13 @@ pub rebuild-checked-spec : {M : Type 1} → statement M
 rebuild-checked-spec =
     tie.close
     (tie.spec
-    scaled-counts-requires
-    slice-aggregate-own-numbers
-    own-numbers-requires
-    slice-aggregate-own-numbers-2
-    own-numbers-requires-2
+    (λ c κs. search needs) (λ c. search needs) (λ c κs. search needs) (λ c. search needs) (λ c κs. search needs)
     merge-leaves-requires
-    one-subtree-fits-requires
+    (λ c κs. search needs)
     returns
     sub-end
     mul-end
     array-share-prefix-rows
     slice-aggregate-standardise
-    standardise-requires
-    same-length
+    (λ c κs. search needs) (λ c. search needs)
     returns-2)

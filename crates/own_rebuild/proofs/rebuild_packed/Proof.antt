@@ -21,20 +21,8 @@ use Rattle.eligible_pairs.proofs.Lent.{as-packed}
 use Rattle.own_rebuild.proofs.rebuild_packed.Statement.{statement}
 use Rattle.own_rebuild.proofs.rebuild_packed.Tie as tie
 
-packed-bytes-requires : tie.Need-packed-bytes-requires
-packed-bytes-requires c κs = search needs
-
-listing-numbers-requires : tie.Need-listing-numbers-requires
-listing-numbers-requires c κs = search needs
-
-judge-sizes-requires : tie.Need-judge-sizes-requires
-judge-sizes-requires c κs = search needs
-
 enum-told : tie.Need-enum-told
 enum-told c = search needs
-
-enum-told-2 : tie.Need-enum-told-2
-enum-told-2 c = search needs
 
 -- what was judged
 judged :
@@ -69,16 +57,10 @@ packed-meant :
     lent-table (a .n) t (a .packed .now) ≡ table-with (a .n) (packed-cells (a .n) (a .packed .now))
 packed-meant c t = as-packed _ t _ (packed-passes _ _ (right c .count, right c .long))
 
-slice-aggregate-rebuild-checked : tie.Need-slice-aggregate-rebuild-checked
-slice-aggregate-rebuild-checked c = search needs
-
 rebuild-checked-requires : tie.Need-rebuild-checked-requires
 rebuild-checked-requires c κs =
     let told = c .before .before in
     (right told .count, (omega arith, omega arith), rw (packed-meant told []) (sheet-is-table _ _), right told .enough)
-
-same-length : tie.Need-same-length
-same-length c = search needs
 
 returns-2 : tie.Need-returns-2
 unfolding packed-answer
@@ -91,13 +73,11 @@ pub rebuild-packed-spec : {M : Type 1} → statement M
 rebuild-packed-spec =
     tie.close
     (tie.spec
-    packed-bytes-requires
-    listing-numbers-requires
-    judge-sizes-requires
+    (λ c κs. search needs) (λ c κs. search needs) (λ c κs. search needs)
     enum-told
-    enum-told-2
+    (λ c. search needs)
     returns
-    slice-aggregate-rebuild-checked
+    (λ c. search needs)
     rebuild-checked-requires
-    same-length
+    (λ c. search needs)
     returns-2)

@@ -44,10 +44,10 @@ use Rattle.refusals.specs.declared.Outcome.{Outcome}
 use Rattle.refusals.specs.Refusals.{outcome, written}
 use Rattle.refusals.proofs.Outcome as O
 use Rattle.refusals.proofs.Outcome.Laws as O′
-use Rattle.polls.specs.declared.Record.{Record}
-use Rattle.polls.specs.Operations.{poll-answer}
+use Rattle.poll_rules.specs.declared.Record.{Record}
+use Rattle.poll_rules.specs.Operations.{poll-answer}
 use Rattle.polls.proofs.Walking.{word, records, Typed, typed-outcome}
-use Rattle.polls.proofs.Record as T
+use Rattle.poll_rules.proofs.Record as T
 use Rattle.polls.proofs.poll as poll
 use Rattle.polls.proofs.poll.Symbol as poll-def
 use Rattle.polls.proofs.poll.Symbol.{name as #polls·poll}

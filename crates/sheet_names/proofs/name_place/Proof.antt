@@ -48,10 +48,7 @@ pub name-place-spec : {M : Type 1} → statement M
 name-place-spec =
     tie.close
     (tie.spec
-    (λ c κs. search needs)
-    (λ c κs. search needs)
-    (λ c. search needs)
-    (λ c. search needs)
+    (λ c κs. search needs) (λ c κs. search needs) (λ c. search needs) (λ c. search needs)
     returns
     start-of-requires
     add-t6

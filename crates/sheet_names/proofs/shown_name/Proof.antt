@@ -13,18 +13,6 @@ use Rattle.sheet_names.proofs.shown_name.Tie as tie
 enum-told : tie.Need-enum-told
 enum-told c = search needs
 
-enum-told-2 : tie.Need-enum-told-2
-enum-told-2 c = search needs
-
-sub-result : tie.Need-sub-result
-sub-result c = search needs
-
-part-result-start : tie.Need-part-result-start
-part-result-start c = search needs
-
-part-result-end : tie.Need-part-result-end
-part-result-end c = search needs
-
 returns : tie.Need-returns
 returns c = shown-none _ (c .before .enum-told2 .given .1)
 
@@ -45,19 +33,10 @@ add-from c = omega (arith, ends (c .before), start-next _ _ (c .start-of .ensure
 shared-slice-read-index-of-u8 : tie.Need-shared-slice-read-index-of-u8
 shared-slice-read-index-of-u8 c = omega (arith, ends (c .before .before), start-next _ _ (c .before .start-of .ensures))
 
-index-of-u8-requires : tie.Need-index-of-u8-requires
-index-of-u8-requires c κs = search needs
-
 add-to : tie.Need-add-to
 add-to c =
     let at = c .before .before in
     omega (arith, ends (at .before), start-next _ _ (at .start-of .ensures))
-
-sub-result-2 : tie.Need-sub-result-2
-sub-result-2 c = search needs
-
-part-result-start-2 : tie.Need-part-result-start-2
-part-result-start-2 c = search needs
 
 part-result-end-2 : tie.Need-part-result-end-2
 part-result-end-2 c =
@@ -82,17 +61,13 @@ shown-name-spec =
     tie.close
     (tie.spec
     enum-told
-    enum-told-2
-    sub-result
-    part-result-start
-    part-result-end
+    (λ c. search needs) (λ c. search needs) (λ c. search needs) (λ c. search needs)
     returns
     start-of-requires
     add-from
     shared-slice-read-index-of-u8
-    index-of-u8-requires
+    (λ c κs. search needs)
     add-to
-    sub-result-2
-    part-result-start-2
+    (λ c. search needs) (λ c. search needs)
     part-result-end-2
     returns-2)

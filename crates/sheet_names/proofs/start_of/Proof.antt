@@ -29,17 +29,8 @@ ends c = omega (arith, next-before _ (c .before .loop .inv .1) (c .loop-test .ta
 shared-slice-read-index-of-u8 : tie.Need-shared-slice-read-index-of-u8 Inv-loop μ-loop
 shared-slice-read-index-of-u8 c = omega (arith, ends (c .before))
 
-index-of-u8-requires : tie.Need-index-of-u8-requires Inv-loop μ-loop
-index-of-u8-requires c κs = search needs
-
-add-at : tie.Need-add-at Inv-loop μ-loop
-add-at c = search needs
-
 add-at-2 : tie.Need-add-at-2 Inv-loop μ-loop
 add-at-2 c = omega (arith, ends (c .before .before))
-
-add-i : tie.Need-add-i Inv-loop μ-loop
-add-i c = search needs
 
 loop-less : tie.Need-loop-less Inv-loop μ-loop
 loop-less c = omega arith
@@ -63,10 +54,9 @@ start-of-spec =
     μ-loop
     loop-holds
     shared-slice-read-index-of-u8
-    index-of-u8-requires
-    add-at
+    (λ c κs. search needs) (λ c. search needs)
     add-at-2
-    add-i
+    (λ c. search needs)
     loop-less
     loop-again
     returns)

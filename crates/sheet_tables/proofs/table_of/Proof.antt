@@ -75,15 +75,12 @@ table-of-spec =
     tie.close
     (tie.spec
     mul-judge-sheet
-    (λ c κs. search needs)
-    (λ c. search needs)
-    (λ c. search needs)
+    (λ c κs. search needs) (λ c. search needs) (λ c. search needs)
     returns
     sub-end
     mul-end
     add-end
-    (λ c. search needs)
-    (λ c. search needs)
+    (λ c. search needs) (λ c. search needs)
     part-write-table-end
     write-table-requires
     (λ c. search needs)

@@ -37,10 +37,7 @@ pub listing-of-spec : {M : Type 1} → statement M
 listing-of-spec =
     tie.close
     (tie.spec
-    (λ c κs. search needs)
-    (λ c κs. search needs)
-    (λ c. search needs)
-    (λ c. search needs)
+    (λ c κs. search needs) (λ c κs. search needs) (λ c. search needs) (λ c. search needs)
     returns
     tree-of-requires
     (λ c. search needs)

@@ -44,9 +44,7 @@ tree-of-spec =
     sub-end
     mul-end
     add-end
-    (λ c. search needs)
-    (λ c. search needs)
+    (λ c. search needs) (λ c. search needs)
     part-rebuild-packed-end
-    (λ c κs. search needs)
-    (λ c. search needs)
+    (λ c κs. search needs) (λ c. search needs)
     returns)

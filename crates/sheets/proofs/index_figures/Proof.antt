@@ -31,18 +31,12 @@ sum :
     right-sum (a .sheet .now) (a .n) (a .offset) ≡ true)
 sum c = sym (c .before .right-sum .ensures) ∙ not-false _ (c .if3 .left)
 
-right-ends-requires : tie.Need-right-ends-requires
-right-ends-requires c κs = search needs
-
 returns : tie.Need-returns
 unfolding outcome-of
 returns c =
     let wrong = sym (c .before .right-ends .ensures) ∙ not-true _ (c .if1 .taken) in
     let refused = ends-refused _ _ _ _ _ wrong in
     (ap outcome-of (sym refused), λ e. absurd (none-not-some _ _ refused e))
-
-leaf-count-requires : tie.Need-leaf-count-requires
-leaf-count-requires c κs = search needs
 
 returns-2 : tie.Need-returns-2
 unfolding outcome-of
@@ -94,9 +88,9 @@ pub index-figures-spec : {M : Type 1} → statement M
 index-figures-spec =
     tie.close
     (tie.spec
-    right-ends-requires
+    (λ c κs. search needs)
     returns
-    leaf-count-requires
+    (λ c κs. search needs)
     returns-2
     right-sum-requires
     returns-3

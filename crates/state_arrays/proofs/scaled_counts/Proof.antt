@@ -31,17 +31,8 @@ Inv-loop n scale p₀ k₀ p k =
 abbrev μ-loop : tie.MeasureT-loop
 μ-loop n scale p₀ k₀ p k = n + 1 - k
 
-pair-counts-requires : tie.Need-pair-counts-requires Inv-loop μ-loop
-pair-counts-requires c κs = search needs
-
 loop-holds : tie.Need-loop-holds Inv-loop μ-loop
 loop-holds c = (omega arith, c .pair-counts .ensures, sym (filled-none _ _))
-
-mul-p : tie.Need-mul-p Inv-loop μ-loop
-mul-p c = search needs
-
-array-read-p : tie.Need-array-read-p Inv-loop μ-loop
-array-read-p c = search needs
 
 next : (c : tie.In-loop Inv-loop μ-loop) → getD (c .before .loop .p) (c .before .loop .k) 0 ≡ P (c .before .loop .k)
 next c = unscaled _ _ (c .before .loop .inv .1) (c .before .loop .inv .2) (omega arith)
@@ -53,18 +44,6 @@ mul-p-2 c =
     let most = P-mono k most-leaves (omega arith) in
     let small : getD (c .before .loop .p) k 0 ≤ P most-leaves = omega (arith, next c, most) in
     omega (arith, P-most, mul-le-mul (s .pre .1) small)
-
-mul-p-3 : tie.Need-mul-p-3 Inv-loop μ-loop
-mul-p-3 c = search needs
-
-array-write-p : tie.Need-array-write-p Inv-loop μ-loop
-array-write-p c = search needs
-
-add-k : tie.Need-add-k Inv-loop μ-loop
-add-k c = search needs
-
-loop-less : tie.Need-loop-less Inv-loop μ-loop
-loop-less c = search needs
 
 loop-again : tie.Need-loop-again Inv-loop μ-loop
 loop-again c =
@@ -83,14 +62,10 @@ scaled-counts-spec =
     (tie.spec
     Inv-loop
     μ-loop
-    pair-counts-requires
+    (λ c κs. search needs)
     loop-holds
-    mul-p
-    array-read-p
+    (λ c. search needs) (λ c. search needs)
     mul-p-2
-    mul-p-3
-    array-write-p
-    add-k
-    loop-less
+    (λ c. search needs) (λ c. search needs) (λ c. search needs) (λ c. search needs)
     loop-again
     returns)

@@ -19,21 +19,12 @@ abbrev μ-loop : tie.MeasureT-loop
 loop-holds : tie.Need-loop-holds Inv-loop μ-loop
 loop-holds c = (search needs, sym (filled-start _ _))
 
-cell-at-requires : tie.Need-cell-at-requires Inv-loop μ-loop
-cell-at-requires c κs = search needs
-
 returns : tie.Need-returns Inv-loop μ-loop
 unfolding found-below
 returns c =
     let l = c .before .before .before .loop in
     rw (lt-ltb (l .i) _ (c .before .before .loop-test .taken))
     (l .inv .1 ∙ filled-here _ _ (l .i) (omega arith) (λ e. c .if1 .taken (c .before .cell-at .ensures ∙ e)))
-
-add-i : tie.Need-add-i Inv-loop μ-loop
-add-i c = search needs
-
-loop-less : tie.Need-loop-less Inv-loop μ-loop
-loop-less c = search needs
 
 loop-again : tie.Need-loop-again Inv-loop μ-loop
 loop-again c =
@@ -53,9 +44,8 @@ filled-spec =
     Inv-loop
     μ-loop
     loop-holds
-    cell-at-requires
+    (λ c κs. search needs)
     returns
-    add-i
-    loop-less
+    (λ c. search needs) (λ c. search needs)
     loop-again
     returns-2)

@@ -21,20 +21,11 @@ abbrev μ-loop : tie.MeasureT-loop
 loop-holds : tie.Need-loop-holds Inv-loop μ-loop
 loop-holds c = (search needs, rw zero-mul (sym (unequal-start _ _)))
 
-unequal-in-row-requires : tie.Need-unequal-in-row-requires Inv-loop μ-loop
-unequal-in-row-requires c κs = search needs
-
 returns : tie.Need-returns Inv-loop μ-loop
 returns c =
     let l = c .before .before .before .loop in
     unequal-told _ (l .i) (c .before .unequal-in-row .result)
     (l .inv .1 ∙ c .before .unequal-in-row .ensures ∙ rw (lt-ltb (c .before .unequal-in-row .result) _ (c .if1 .taken)))
-
-add-i : tie.Need-add-i Inv-loop μ-loop
-add-i c = search needs
-
-loop-less : tie.Need-loop-less Inv-loop μ-loop
-loop-less c = search needs
 
 loop-again : tie.Need-loop-again Inv-loop μ-loop
 loop-again c =
@@ -58,9 +49,8 @@ unequal-spec =
     Inv-loop
     μ-loop
     loop-holds
-    unequal-in-row-requires
+    (λ c κs. search needs)
     returns
-    add-i
-    loop-less
+    (λ c. search needs) (λ c. search needs)
     loop-again
     returns-2)

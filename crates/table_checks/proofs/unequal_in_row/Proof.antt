@@ -15,21 +15,12 @@ Inv-loop n cells i j₀ j = (i < j) × (j ≤ n) × (unequal-from n cells (i * n
 abbrev μ-loop : tie.MeasureT-loop
 μ-loop n cells i j₀ j = n - j
 
-add-j : tie.Need-add-j Inv-loop μ-loop
-add-j c = search needs
-
 loop-holds : tie.Need-loop-holds Inv-loop μ-loop
 loop-holds c = (
   search needs,
   search needs,
   unequal-after _ _ (c .before .args .i) (c .before .args .i + 1) (c .before .pre .1) (omega arith),
 )
-
-cell-at-requires : tie.Need-cell-at-requires Inv-loop μ-loop
-cell-at-requires c κs = search needs
-
-cell-at-requires-2 : tie.Need-cell-at-requires-2 Inv-loop μ-loop
-cell-at-requires-2 c κs = search needs
 
 returns : tie.Need-returns Inv-loop μ-loop
 returns c =
@@ -39,12 +30,6 @@ returns c =
     (l .inv .2
     ∙ unequal-here _ _ i (l .j) (omega arith) (omega arith)
     (λ e. c .if1 .taken (c .before .before .cell-at .ensures ∙ e ∙ sym (c .before .cell-at2 .ensures))))
-
-add-j-2 : tie.Need-add-j-2 Inv-loop μ-loop
-add-j-2 c = search needs
-
-loop-less : tie.Need-loop-less Inv-loop μ-loop
-loop-less c = search needs
 
 loop-again : tie.Need-loop-again Inv-loop μ-loop
 loop-again c =
@@ -71,12 +56,10 @@ unequal-in-row-spec =
     (tie.spec
     Inv-loop
     μ-loop
-    add-j
+    (λ c. search needs)
     loop-holds
-    cell-at-requires
-    cell-at-requires-2
+    (λ c κs. search needs) (λ c κs. search needs)
     returns
-    add-j-2
-    loop-less
+    (λ c. search needs) (λ c. search needs)
     loop-again
     returns-2)

@@ -10,14 +10,8 @@ use Rattle.tree_tables.proofs.TableAnswers.{accepted-both}
 use Rattle.tree_tables.proofs.gap.Statement.{statement}
 use Rattle.tree_tables.proofs.gap.Tie as tie
 
-judge-gap-requires : tie.Need-judge-gap-requires
-judge-gap-requires c κs = search needs
-
 enum-told : tie.Need-enum-told
 enum-told c = search needs
-
-enum-told-2 : tie.Need-enum-told-2
-enum-told-2 c = search needs
 
 returns : tie.Need-returns
 unfolding gap-answer
@@ -28,9 +22,6 @@ fill-gap-requires c κs =
     let s = c .before in
     let a = accepted-both _ _ _ _ (call-passed _ (s .before .before .judge-gap .ensures) (s .enum-told .given .1)) in
     (a .count, omega arith, a .cells, a .keeps, a .room-enough)
-
-same-length : tie.Need-same-length
-same-length c = search needs
 
 returns-2 : tie.Need-returns-2
 unfolding gap-answer gaps
@@ -44,10 +35,10 @@ pub gap-spec : {M : Type 1} → statement M
 gap-spec =
     tie.close
     (tie.spec
-    judge-gap-requires
+    (λ c κs. search needs)
     enum-told
-    enum-told-2
+    (λ c. search needs)
     returns
     fill-gap-requires
-    same-length
+    (λ c. search needs)
     returns-2)

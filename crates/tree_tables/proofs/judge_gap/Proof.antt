@@ -13,12 +13,6 @@ use Rattle.tree_tables.proofs.TableAnswers.{sizes-stop, listing-stops, 
 use Rattle.tree_tables.proofs.judge_gap.Statement.{statement}
 use Rattle.tree_tables.proofs.judge_gap.Tie as tie
 
-table-cells-requires : tie.Need-table-cells-requires
-table-cells-requires c κs = search needs
-
-judge-input-requires : tie.Need-judge-input-requires
-judge-input-requires c κs = search needs
-
 -- what was judged of the sizes
 sizes :
     (c : tie.After-judge-input)
@@ -28,9 +22,6 @@ sizes c = c .judge-input .ensures ∙ ap outcome-of (input-due _ _ _ _ _ (c .bef
 
 enum-told : tie.Need-enum-told
 enum-told c = search needs
-
-enum-told-2 : tie.Need-enum-told-2
-enum-told-2 c = search needs
 
 returns : tie.Need-returns
 returns c = sizes-stop _ _ _ _ (sizes (c .before .before)) (c .enum-told2 .given .1)
@@ -42,22 +33,10 @@ fine :
     input-refusal Counts (a .n) (a .n * a .n) (length (a .cells .now)) ≡ none
 fine c = call-passed _ (sizes (c .before .before)) (c .enum-told .given .1)
 
-judge-for-cells-requires : tie.Need-judge-for-cells-requires
-judge-for-cells-requires c κs = search needs
-
-enum-told-3 : tie.Need-enum-told-3
-enum-told-3 c = search needs
-
-enum-told-4 : tie.Need-enum-told-4
-enum-told-4 c = search needs
-
 returns-2 : tie.Need-returns-2
 returns-2 c =
     let made = c .before .before in
     listing-stops _ _ _ _ (fine (made .before)) (made .judge-for-cells .ensures) (c .enum-told4 .given .1)
-
-judge-requires : tie.Need-judge-requires
-judge-requires c κs = search needs
 
 returns-3 : tie.Need-returns-3
 returns-3 c =
@@ -69,14 +48,11 @@ pub judge-gap-spec : {M : Type 1} → statement M
 judge-gap-spec =
     tie.close
     (tie.spec
-    table-cells-requires
-    judge-input-requires
+    (λ c κs. search needs) (λ c κs. search needs)
     enum-told
-    enum-told-2
+    (λ c. search needs)
     returns
-    judge-for-cells-requires
-    enum-told-3
-    enum-told-4
+    (λ c κs. search needs) (λ c. search needs) (λ c. search needs)
     returns-2
-    judge-requires
+    (λ c κs. search needs)
     returns-3)

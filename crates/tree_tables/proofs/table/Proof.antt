@@ -10,14 +10,8 @@ use Rattle.tree_tables.specs.Operations.{table-answer}
 use Rattle.tree_tables.proofs.table.Statement.{statement}
 use Rattle.tree_tables.proofs.table.Tie as tie
 
-judge-for-cells-requires : tie.Need-judge-for-cells-requires
-judge-for-cells-requires c κs = search needs
-
 enum-told : tie.Need-enum-told
 enum-told c = search needs
-
-enum-told-2 : tie.Need-enum-told-2
-enum-told-2 c = search needs
 
 returns : tie.Need-returns
 unfolding table-answer
@@ -29,9 +23,6 @@ fill-table-requires c κs =
     let a =
     accepted-listing _ _ _ _ (call-passed _ (s .before .before .judge-for-cells .ensures) (s .enum-told .given .1)) in
     (a .count, a .keeps, a .room-enough)
-
-same-length : tie.Need-same-length
-same-length c = search needs
 
 returns-2 : tie.Need-returns-2
 unfolding table-answer table-of
@@ -45,10 +36,10 @@ pub table-spec : {M : Type 1} → statement M
 table-spec =
     tie.close
     (tie.spec
-    judge-for-cells-requires
+    (λ c κs. search needs)
     enum-told
-    enum-told-2
+    (λ c. search needs)
     returns
     fill-table-requires
-    same-length
+    (λ c. search needs)
     returns-2)

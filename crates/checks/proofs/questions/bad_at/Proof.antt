@@ -19,15 +19,6 @@ Inv-loop n question p x i₀ i = (i ≤ p) × ((k : ℕ) → k < i → eqb x (ge
 abbrev μ-loop : tie.MeasureT-loop
 μ-loop n question p x i₀ i = p - i
 
-mul-x : tie.Need-mul-x Inv-loop μ-loop
-mul-x c = search needs
-
-shared-slice-read-x : tie.Need-shared-slice-read-x Inv-loop μ-loop
-shared-slice-read-x c = search needs
-
-index-of-u16-requires : tie.Need-index-of-u16-requires Inv-loop μ-loop
-index-of-u16-requires c κs = search needs
-
 returns : tie.Need-returns Inv-loop μ-loop
 returns c =
     let a = c .before .before .before .before .args in
@@ -38,12 +29,6 @@ returns c =
 loop-holds : tie.Need-loop-holds Inv-loop μ-loop
 loop-holds c = (omega arith, λ k h. absurd (omega arith))
 
-mul-if2 : tie.Need-mul-if2 Inv-loop μ-loop
-mul-if2 c = search needs
-
-shared-slice-read-if2 : tie.Need-shared-slice-read-if2 Inv-loop μ-loop
-shared-slice-read-if2 c = search needs
-
 returns-2 : tie.Need-returns-2 Inv-loop μ-loop
 returns-2 c =
     let a = c .before .before .before .before .before .before .before .before .args in
@@ -52,12 +37,6 @@ returns-2 c =
     (any-before (eqb x) 0 (a .question .now) (a .p) (c .before .before .before .loop .i) (omega arith)
     (c .before .before .loop-test .taken)
     (eq-eqb _ _ (c .if2 .taken))))
-
-add-i : tie.Need-add-i Inv-loop μ-loop
-add-i c = search needs
-
-loop-less : tie.Need-loop-less Inv-loop μ-loop
-loop-less c = search needs
 
 loop-again : tie.Need-loop-again Inv-loop μ-loop
 loop-again c = (omega arith, below-more _ _ (c .before .before .before .loop .inv .1) (ne-eqb _ _ (c .if2 .left)))
@@ -77,15 +56,11 @@ bad-at-spec =
     (tie.spec
     Inv-loop
     μ-loop
-    mul-x
-    shared-slice-read-x
-    index-of-u16-requires
+    (λ c. search needs) (λ c. search needs) (λ c κs. search needs)
     returns
     loop-holds
-    mul-if2
-    shared-slice-read-if2
+    (λ c. search needs) (λ c. search needs)
     returns-2
-    add-i
-    loop-less
+    (λ c. search needs) (λ c. search needs)
     loop-again
     returns-3)

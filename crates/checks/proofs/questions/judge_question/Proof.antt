@@ -21,21 +21,12 @@ abbrev μ-loop : tie.MeasureT-loop
 loop-holds : tie.Need-loop-holds Inv-loop μ-loop
 loop-holds c = (omega arith, λ i h. absurd (omega arith))
 
-bad-at-requires : tie.Need-bad-at-requires Inv-loop μ-loop
-bad-at-requires c κs = search needs
-
 returns : tie.Need-returns Inv-loop μ-loop
 unfolding outcome-of
 returns c =
     let bad = sym (c .before .bad-at .ensures) ∙ c .if1 .taken in
     let l = c .before .before .before .loop in
     ap outcome-of (sym (question-bad _ _ (l .p) (c .before .before .loop-test .taken) bad (l .inv .1)))
-
-add-p : tie.Need-add-p Inv-loop μ-loop
-add-p c = search needs
-
-loop-less : tie.Need-loop-less Inv-loop μ-loop
-loop-less c = search needs
 
 loop-again : tie.Need-loop-again Inv-loop μ-loop
 loop-again c = (
@@ -55,9 +46,8 @@ judge-question-spec =
     Inv-loop
     μ-loop
     loop-holds
-    bad-at-requires
+    (λ c κs. search needs)
     returns
-    add-p
-    loop-less
+    (λ c. search needs) (λ c. search needs)
     loop-again
     returns-2)

@@ -23,18 +23,6 @@ loop-holds c =
     let a = c .before .before .args in
     (omega arith, rw (rest-all (a .s .now) (a .a) (a .many), rest-all (a .t .now) (a .b) (a .many)))
 
-sub-loop : tie.Need-sub-loop Inv-loop μ-loop
-sub-loop c = search needs
-
-add-same-eight : tie.Need-add-same-eight Inv-loop μ-loop
-add-same-eight c = search needs
-
-add-same-eight-2 : tie.Need-add-same-eight-2 Inv-loop μ-loop
-add-same-eight-2 c = search needs
-
-same-eight-requires : tie.Need-same-eight-requires Inv-loop μ-loop
-same-eight-requires c κs = search needs
-
 returns : tie.Need-returns Inv-loop μ-loop
 returns c =
     let l = c .before .before .before in
@@ -44,12 +32,6 @@ returns c =
     let differ = sym (c .before .same-eight .ensures) ∙ not-true _ (c .if1 .taken) in
     stops _ _ (sym turn ∙ l .loop .inv .1) differ
 
-add-k : tie.Need-add-k Inv-loop μ-loop
-add-k c = search needs
-
-loop-less : tie.Need-loop-less Inv-loop μ-loop
-loop-less c = search needs
-
 loop-again : tie.Need-loop-again Inv-loop μ-loop
 loop-again c =
     let l = c .before .before .before in
@@ -58,18 +40,6 @@ loop-again c =
     (omega arith) in
     let agree = sym (c .before .same-eight .ensures) ∙ not-false _ (c .if1 .left) in
     (omega arith, goes-on _ _ (sym turn ∙ l .loop .inv .1) agree)
-
-add-same-bytes : tie.Need-add-same-bytes Inv-loop μ-loop
-add-same-bytes c = search needs
-
-add-same-bytes-2 : tie.Need-add-same-bytes-2 Inv-loop μ-loop
-add-same-bytes-2 c = search needs
-
-sub-same-bytes : tie.Need-sub-same-bytes Inv-loop μ-loop
-sub-same-bytes c = search needs
-
-same-bytes-requires : tie.Need-same-bytes-requires Inv-loop μ-loop
-same-bytes-requires c κs = search needs
 
 returns-2 : tie.Need-returns-2 Inv-loop μ-loop
 returns-2 c = c .same-bytes .ensures ∙ c .before .before .loop .inv .1
@@ -81,16 +51,9 @@ same-parts-spec =
     Inv-loop
     μ-loop
     loop-holds
-    sub-loop
-    add-same-eight
-    add-same-eight-2
-    same-eight-requires
+    (λ c. search needs) (λ c. search needs) (λ c. search needs) (λ c κs. search needs)
     returns
-    add-k
-    loop-less
+    (λ c. search needs) (λ c. search needs)
     loop-again
-    add-same-bytes
-    add-same-bytes-2
-    sub-same-bytes
-    same-bytes-requires
+    (λ c. search needs) (λ c. search needs) (λ c. search needs) (λ c κs. search needs)
     returns-2)

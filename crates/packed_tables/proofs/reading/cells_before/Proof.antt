@@ -9,9 +9,6 @@ use Rattle.packed_tables.proofs.reading.cells_before.Tie as tie
 mul-result : tie.Need-mul-result
 mul-result c = let a = c .args in omega (arith, row-small (a .n) (a .i) (omega arith) (omega arith))
 
-add-result : tie.Need-add-result
-add-result c = search needs
-
 mul-result-2 : tie.Need-mul-result-2
 mul-result-2 c =
     let a = c .args in
@@ -20,12 +17,6 @@ mul-result-2 c =
 
 sub-result : tie.Need-sub-result
 sub-result c = let a = c .args in omega (arith, half-below (a .n) (a .i) (omega arith) (omega arith))
-
-sub-result-2 : tie.Need-sub-result-2
-sub-result-2 c = search needs
-
-sub-result-3 : tie.Need-sub-result-3
-sub-result-3 c = search needs
 
 add-result-2 : tie.Need-add-result-2
 add-result-2 c = let a = c .args in omega (arith, row-small (a .n) (a .i) (omega arith) (omega arith))
@@ -38,10 +29,9 @@ cells-before-spec =
     tie.close
     (tie.spec
     mul-result
-    add-result
+    (λ c. search needs)
     mul-result-2
     sub-result
-    sub-result-2
-    sub-result-3
+    (λ c. search needs) (λ c. search needs)
     add-result-2
     returns)

@@ -21,21 +21,6 @@ abbrev μ-loop : tie.MeasureT-loop
 loop-holds : tie.Need-loop-holds Inv-loop μ-loop
 loop-holds c = (omega arith, refl, sym (filled-none _ _))
 
-cell-above-requires : tie.Need-cell-above-requires Inv-loop μ-loop
-cell-above-requires c κs = search needs
-
-mul-out : tie.Need-mul-out Inv-loop μ-loop
-mul-out c = search needs
-
-slice-write-out : tie.Need-slice-write-out Inv-loop μ-loop
-slice-write-out c = search needs
-
-add-j : tie.Need-add-j Inv-loop μ-loop
-add-j c = search needs
-
-loop-less : tie.Need-loop-less Inv-loop μ-loop
-loop-less c = search needs
-
 loop-again : tie.Need-loop-again Inv-loop μ-loop
 loop-again c =
     let l = c .before .before .loop in
@@ -43,9 +28,6 @@ loop-again c =
     let cells = packed-cells (a .n) (a .packed .now) in
     let cell = c .cell-above .ensures ∙ sym (below-diagonal (a .n) cells (a .i) (l .j) (omega arith)) in
     (omega arith, simp length-set (l .inv .1), filled-more _ _ (l .inv .2) (omega arith) cell)
-
-same-length : tie.Need-same-length Inv-loop μ-loop
-same-length c = search needs
 
 returns : tie.Need-returns Inv-loop μ-loop
 returns c =
@@ -60,11 +42,7 @@ write-below-spec =
     Inv-loop
     μ-loop
     loop-holds
-    cell-above-requires
-    mul-out
-    slice-write-out
-    add-j
-    loop-less
+    (λ c κs. search needs) (λ c. search needs) (λ c. search needs) (λ c. search needs) (λ c. search needs)
     loop-again
-    same-length
+    (λ c. search needs)
     returns)

@@ -37,15 +37,6 @@ sub-write-row c = omega (arith, ends (c .before .before))
 part-write-row-start : tie.Need-part-write-row-start
 part-write-row-start c = omega (arith, ends (c .before .before))
 
-part-write-row-end : tie.Need-part-write-row-end
-part-write-row-end c = search needs
-
-write-row-requires : tie.Need-write-row-requires
-write-row-requires c κs = search needs
-
-same-length : tie.Need-same-length
-same-length c = search needs
-
 -- the row as it was written into the part
 module _ (c : tie.After-write-row) where
   abbrev s : tie.Start
@@ -90,7 +81,5 @@ write-row-spec =
     mul-write-row
     sub-write-row
     part-write-row-start
-    part-write-row-end
-    write-row-requires
-    same-length
+    (λ c. search needs) (λ c κs. search needs) (λ c. search needs)
     returns)

@@ -22,15 +22,6 @@ abbrev μ-loop : tie.MeasureT-loop
 loop-holds : tie.Need-loop-holds Inv-loop μ-loop
 loop-holds c = (omega arith, refl, rw (zero-mul (c .before .before .args .n)) (sym (filled-none _ _)))
 
-write-row-requires : tie.Need-write-row-requires Inv-loop μ-loop
-write-row-requires c κs = search needs
-
-add-i : tie.Need-add-i Inv-loop μ-loop
-add-i c = search needs
-
-loop-less : tie.Need-loop-less Inv-loop μ-loop
-loop-less c = search needs
-
 loop-again : tie.Need-loop-again Inv-loop μ-loop
 loop-again c =
     let a = c .before .before .before .before .before .before .before .before .args in
@@ -38,9 +29,6 @@ loop-again c =
     let w = c .before .before .write-row .ensures in
     let next : (l .i + 1) * a .n ≡ l .i * a .n + a .n = omega arith in
     (omega arith, w .long ∙ l .inv .1, rw next (w .row (a .out .now) (omega arith) (l .inv .2)))
-
-same-length : tie.Need-same-length Inv-loop μ-loop
-same-length c = search needs
 
 returns : tie.Need-returns Inv-loop μ-loop
 returns c =
@@ -55,9 +43,7 @@ write-table-spec =
     Inv-loop
     μ-loop
     loop-holds
-    write-row-requires
-    add-i
-    loop-less
+    (λ c κs. search needs) (λ c. search needs) (λ c. search needs)
     loop-again
-    same-length
+    (λ c. search needs)
     returns)

@@ -66,12 +66,6 @@ subtract-row-requires c κs =
       s .pre .2,
     )
 
-add-i : tie.Need-add-i Inv-loop μ-loop
-add-i c = search needs
-
-loop-less : tie.Need-loop-less Inv-loop μ-loop
-loop-less c = search needs
-
 loop-again : tie.Need-loop-again Inv-loop μ-loop
 loop-again c =
     let found = c .before .before .before .before .before .find-row .ensures in
@@ -108,8 +102,7 @@ fill-gap-spec =
     loop-holds
     find-row-requires
     subtract-row-requires
-    add-i
-    loop-less
+    (λ c. search needs) (λ c. search needs)
     loop-again
     same-length
     returns)

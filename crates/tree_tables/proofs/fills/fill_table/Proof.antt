@@ -62,12 +62,6 @@ write-row-requires c κs =
           (found .0) (found .1);
     }
 
-add-i : tie.Need-add-i Inv-loop μ-loop
-add-i c = search needs
-
-loop-less : tie.Need-loop-less Inv-loop μ-loop
-loop-less c = search needs
-
 loop-again : tie.Need-loop-again Inv-loop μ-loop
 loop-again c =
     let found = c .before .before .before .before .before .before .find-row .ensures in
@@ -104,8 +98,7 @@ fill-table-spec =
     loop-holds
     find-row-requires
     write-row-requires
-    add-i
-    loop-less
+    (λ c. search needs) (λ c. search needs)
     loop-again
     same-length
     returns)

@@ -73,12 +73,6 @@ mul-t17 c = omega (arith, here c .0)
 slice-set-from-out : tie.Need-slice-set-from-out Inv-loop μ-loop
 slice-set-from-out c = omega (arith, here c .1, c .before .before .before .before .loop .inv .1)
 
-add-j : tie.Need-add-j Inv-loop μ-loop
-add-j c = search needs
-
-loop-less : tie.Need-loop-less Inv-loop μ-loop
-loop-less c = search needs
-
 loop-again : tie.Need-loop-again Inv-loop μ-loop
 loop-again c =
     let s = c .before .before .before .before .before .before in
@@ -92,9 +86,6 @@ loop-again c =
           cell-more f l (a .i * a .n) (i .j) e room (i .inv .2 f l h e)
           (exact ∙ c .less .ensures ∙ rw (c .before .count-at .ensures) (sym (h (i .j) (omega arith)))),
     )
-
-same-length : tie.Need-same-length Inv-loop μ-loop
-same-length c = search needs
 
 returns : tie.Need-returns Inv-loop μ-loop
 returns c = λ f l h e.
@@ -117,8 +108,7 @@ subtract-row-spec =
     less-requires
     mul-t17
     slice-set-from-out
-    add-j
-    loop-less
+    (λ c. search needs) (λ c. search needs)
     loop-again
-    same-length
+    (λ c. search needs)
     returns)

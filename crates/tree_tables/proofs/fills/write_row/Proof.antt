@@ -51,12 +51,6 @@ mul-out-2 c = omega (arith, here c .0)
 slice-write-out : tie.Need-slice-write-out Inv-loop μ-loop
 slice-write-out c = omega (arith, here c .1, c .before .before .loop .inv .1)
 
-add-j : tie.Need-add-j Inv-loop μ-loop
-add-j c = search needs
-
-loop-less : tie.Need-loop-less Inv-loop μ-loop
-loop-less c = search needs
-
 loop-again : tie.Need-loop-again Inv-loop μ-loop
 loop-again c =
     let s = c .before .before .before .before in
@@ -69,9 +63,6 @@ loop-again c =
           cell-more f l (a .i * a .n) (i .j) e room (i .inv .2 f l h e)
           (c .count-at .ensures ∙ sym (h (i .j) (omega arith))),
     )
-
-same-length : tie.Need-same-length Inv-loop μ-loop
-same-length c = search needs
 
 returns : tie.Need-returns Inv-loop μ-loop
 returns c = λ f l h e.
@@ -91,8 +82,7 @@ write-row-spec =
     add-out
     mul-out-2
     slice-write-out
-    add-j
-    loop-less
+    (λ c. search needs) (λ c. search needs)
     loop-again
-    same-length
+    (λ c. search needs)
     returns)

@@ -1,0 +1,4 @@
+pub mod Records
+pub mod Counts
+pub mod Operations
+pub mod inner

@@ -1,0 +1,3 @@
+pub mod Nodes
+mod Leasts
+pub mod SubtreeRows

@@ -1,0 +1,208 @@
+-- Writing a subtree's rows from row s on: the rows of the first child, those of the second, and the node's own row make
+-- up its post-order; the recursion that does so writes the standard listing.
+use mathlib.Core.Path.{_≡_, refl, ap, sym, _∙_}
+use mathlib.Core.List.{List, [], _∷_, _++_}
+use mathlib.Core.Option.{none}
+use Prim.Native.Nat.{ℕ, _+_, _-_, _*_, _≤_, _<_}
+use native.Mathlib.Nat.{add-zero, zero-add}
+use native.Mathlib.Numerals.{add-one}
+use native.Mathlib.Omega.{arith}
+use native.Mathlib.Decide.{decLt}
+use borrow.Author.Tests.{lt-ltb, le-ltb}
+use lib.ListN.{length, getD, set, take, drop}
+use lib.Seq.{sets, length-sets, sets-eq, take-at}
+use Rattle.base.proofs.Lists.{sets-append}
+use Rattle.limits.specs.Limits.{IsLeafCount, most-numbers}
+use Rattle.refusals.specs.Refusals.{written}
+use Rattle.refusals.proofs.Answers.{written-done}
+use Rattle.trees.specs.Trees.{Tree, leaf, node, size, ordered}
+use Rattle.trees.specs.Listings.{KeepsRules, tree-of, number-in, post-order, standard}
+use Rattle.trees.proofs.Trees.{size-node, size-pos, OnLeaves, drawn-on, ordered-drawn, tree-size}
+use Rattle.trees.proofs.Rules.{on-leaves, listing-tree}
+use Rattle.trees.proofs.Blocks.{post-order-length, number-node}
+use Rattle.trees.proofs.Listings.{tree-listing}
+use Rattle.listings.specs.Operations.{listing-refusal}
+use Rattle.listings.proofs.ListingRefusal.{accepted-listing, rules-left}
+use Rattle.standard_listings.specs.Operations.{standardise-answer}
+use Rattle.standard_listings.specs.inner.Standardising.{part, standard-first, standard-second, InOrder, AtNode}
+use Rattle.standard_listings.specs.inner.Standardising.{child-number, with-row, RowFits, SubtreeRowsFit}
+use Rattle.standard_listings.specs.inner.Standardising.{SubtreeRowsWritten}
+use Rattle.standard_listings.proofs.Nodes.{part-leaf, part-node, first-below, second-below}
+
+-- a node's rows, written: those of A, which end before row t, those of B, which end before row r, and its own
+write-node :
+    (A B : Tree) (n s t r : ℕ) (out : List ℕ) → t + 1 ≡ s + size A → r + 1 ≡ t + size B
+    → sets out (2 * s) (post-order (node A B) (n + s))
+    ≡ (let first = sets out (2 * s) (post-order A (n + s)) in
+    let second = sets first (2 * t) (post-order B (n + t)) in
+    set (set second (2 * r) (number-in A (n + s))) (2 * r + 1) (number-in B (n + t)))
+unfolding post-order
+write-node A B n s t r out ea eb =
+    let b : n + s + size A - 1 ≡ n + t = omega arith in
+    let rows-a = post-order A (n + s) in
+    let rows-b = post-order B (n + t) in
+    let own = number-in A (n + s) ∷ number-in B (n + t) ∷ [] in
+    let after-a : 2 * s + length rows-a ≡ 2 * t = omega (arith, post-order-length A (n + s), size-pos A) in
+    let after-b : 2 * t + length rows-b ≡ 2 * r = omega (arith, post-order-length B (n + t), size-pos B) in
+    rw (
+      b,
+      sets-append rows-a (rows-b ++ own) out (2 * s),
+      after-a,
+      sets-append rows-b own (sets out (2 * s) rows-a) (2 * t),
+      after-b,
+      add-one (2 * r),
+    )
+
+-- the children of a node, as the code has them
+pub record Split (n : ℕ) (l : List ℕ) (v a b : ℕ) : Type 0 where
+  pub joins : part n l v ≡ node (part n l a) (part n l b)
+  pub first-low : a < v
+  pub second-low : b < v
+
+pub split-node :
+    {n : ℕ} {l : List ℕ} {v : ℕ} (w : AtNode n l v) {a b : ℕ} → a ≡ standard-first n l v
+    → b ≡ standard-second n l v → Split n l v a b
+split-node w ea eb =
+    record { joins = rw (ea, eb) (part-node w); first-low = rw ea (first-below w); second-low = rw eb (second-below w) }
+
+module _ {n : ℕ} {l sorted : List ℕ} {v s : ℕ} {out : List ℕ} (g : SubtreeRowsFit n l sorted v s out) where
+  -- a number from n on is a node's
+  pub node-at : (x : ℕ) → n ≤ x → x < 2 * n - 2 → AtNode n l x
+  node-at x low high = record { count = g .count; keeps = g .keeps; low = low; high = high }
+
+  -- its children, as they stand in order
+  pub split-at :
+      n ≤ v → {a b : ℕ} → a ≡ getD sorted (2 * (v - n)) 0 → b ≡ getD sorted (2 * (v - n) + 1) 0 → Split n l v a b
+  split-at low ea eb =
+      split-node (node-at v low (g .inside)) (ea ∙ g .order .firsts v low (g .inside))
+      (eb ∙ g .order .seconds v low (g .inside))
+
+  pub leaf-rows-written : v < n → SubtreeRowsWritten n l v s out out s
+  leaf-rows-written h = is-leaf (part-leaf n l v h)
+    where
+      is-leaf : part n l v ≡ leaf v → SubtreeRowsWritten n l v s out out s
+      is-leaf e = record { next = rw e (unfold size in refl); rows = rw e (unfold post-order in refl) }
+
+  -- a row names its child x by the number that x has in post-order
+  named :
+      (x u t : ℕ) → x < 2 * n - 2 → t + 1 ≡ u + size (part n l x) → child-number n x t ≡ number-in (part n l x) (n + u)
+  unfolding child-number
+  named x u t lx e = elim (decLt x n) [
+    | yes h ↦ rw (lt-ltb x n h, part-leaf n l x h) (unfold number-in in refl)
+    | no h ↦
+        let w = node-at x (omega arith) lx in
+        let A = part n l (standard-first n l x) in
+        let B = part n l (standard-second n l x) in
+        rw (le-ltb x n (omega arith), part-node w, number-node A B (n + u))
+        (omega (arith, ap size (part-node w), size-node A B, size-pos A, size-pos B))
+  ]
+
+  -- the rows of a child x may be written too, from row u on
+  child-rows-fit :
+      (x u : ℕ) (o : List ℕ) → x < v → u + size (part n l x) < n → length o ≡ length out
+      → SubtreeRowsFit n l sorted x u o
+  child-rows-fit x u o low below long = record {
+    count = g .count;
+    keeps = g .keeps;
+    order = g .order;
+    inside = omega (arith, g .inside);
+    below = below;
+    room = omega (arith, g .room);
+  }
+
+  module _ {a b : ℕ} (c : Split n l v a b) where
+    sizes : size (part n l v) ≡ size (part n l a) + size (part n l b)
+    sizes = ap size (c .joins) ∙ size-node _ _
+
+    pub first-rows-fit : SubtreeRowsFit n l sorted a s out
+    first-rows-fit = child-rows-fit a s out (c .first-low) (omega (arith, sizes, g .below)) refl
+
+    module _ {out₁ : List ℕ} {t : ℕ} (d : SubtreeRowsWritten n l a s out out₁ t) where
+      long : length out₁ ≡ length out
+      long = rw (d .rows) (length-sets out (2 * s) (post-order (part n l a) (n + s)))
+
+      pub second-rows-fit : SubtreeRowsFit n l sorted b t out₁
+      second-rows-fit = child-rows-fit b t out₁ (c .second-low) (omega (arith, sizes, g .below, d .next)) long
+
+      module _ {out₂ : List ℕ} {r : ℕ} (e : SubtreeRowsWritten n l b t out₁ out₂ r) where
+        long-still : length out₂ ≡ length out
+        long-still = rw (e .rows) (length-sets out₁ (2 * t) (post-order (part n l b) (n + t))) ∙ long
+
+        pub row-fits : RowFits n t r out₂
+        row-fits = record {
+          count = g .count;
+          first-ends = omega (arith, d .next, sizes, g .below, size-pos (part n l b));
+          second-ends = omega (arith, e .next, d .next, sizes, g .below);
+          room = omega (arith, e .next, d .next, sizes, g .below, g .room, long-still);
+        }
+
+        pub node-rows-written : SubtreeRowsWritten n l v s out (with-row n a t b r out₂) (r + 1)
+        node-rows-written = record {
+          next = omega (arith, e .next, d .next, sizes);
+          rows =
+              rw (
+                c .joins,
+                named a s t (omega (arith, c .first-low, g .inside)) (d .next),
+                named b t r (omega (arith, c .second-low, g .inside)) (e .next),
+                e .rows,
+                d .rows,
+              ) (sym (write-node (part n l a) (part n l b) n s t r out (d .next) (e .next)));
+        }
+
+-- The whole listing: from row 0 on, under the last node.
+module _ (n : ℕ) (l : List ℕ) (count : IsLeafCount n) (keeps : KeepsRules n l) where
+  whole-size : size (part n l (2 * n - 3)) + 1 ≡ n
+  whole-size = unfold tree-of in tree-size n (ordered (tree-of n l)) drawn (omega (arith, count))
+    where
+      drawn : OnLeaves n (ordered (tree-of n l))
+      drawn = drawn-on n _ (ordered-drawn n (tree-of n l) (on-leaves n l (count .0) keeps))
+
+  pub whole-rows-fit :
+      (sorted out : List ℕ) → InOrder n l (2 * n - 2) sorted → 2 * (n - 2) ≤ length out
+      → SubtreeRowsFit n l sorted (2 * n - 3) 0 out
+  whole-rows-fit sorted out order room = record {
+    count = count;
+    keeps = keeps;
+    order = order;
+    inside = omega (arith, count);
+    below = omega (arith, whole-size);
+    room = room;
+  }
+
+  -- it has as many numbers as any listing of n leaves
+  pub standard-length : length (standard n (tree-of n l)) ≡ 2 * (n - 2)
+  standard-length = tree-listing n count (tree-of n l) (listing-tree n count l keeps) .0 .numbers
+
+  pub whole-rows-written :
+      (out out′ : List ℕ) (r : ℕ) → 2 * (n - 2) ≤ length out → SubtreeRowsWritten n l (2 * n - 3) 0 out out′ r
+      → out′ ≡ standard n (tree-of n l) ++ drop (2 * (n - 2)) out
+  unfolding standard tree-of
+  whole-rows-written out out′ r room w =
+      let rows = standard n (tree-of n l) in
+      let end = zero-add (2 * (n - 2)) in
+      w .rows ∙ rw (add-zero n) (sets-eq rows out 0 (omega (arith, standard-length)) ∙ rw (standard-length, end))
+
+-- the buffer that standardising leaves, where nothing is refused: the listing, and what stood behind it
+pub standard-end :
+    (n : ℕ) (l out : List ℕ) {out′ : List ℕ} (due room : ℕ) → listing-refusal n l due room ≡ none
+    → out′ ≡ standard n (tree-of n l) ++ drop (2 * (n - 2)) out
+    → out′ ≡ standard n (tree-of n l) ++ drop (length (standard n (tree-of n l))) out
+standard-end n l out due room h e =
+    let a = accepted-listing n l due room h in
+    e ∙ rw (standard-length n l (a .count) (a .keeps))
+
+pub standard-written :
+    (n : ℕ) (l out : List ℕ) → listing-refusal n l (2 * (n - 2)) (length out) ≡ none
+    → written (standardise-answer n l (length out)) out ≡ standard n (tree-of n l) ++ drop (2 * (n - 2)) out
+unfolding standardise-answer
+standard-written n l out h = written-done _ _ out h ∙ sym (standard-end n l out _ _ h refl)
+
+-- rows lent for the standard listing: there is room for it, and then it stands at their front
+pub rows-lent :
+    (n : ℕ) (l out : List ℕ) → IsLeafCount n → KeepsRules n l → length out ≡ most-numbers
+    → take (2 * (n - 2)) (written (standardise-answer n l (length out)) out) ≡ standard n (tree-of n l)
+rows-lent n l out c k e =
+    rw (standard-written n l out room) (take-at (standard n (tree-of n l)) _ (2 * (n - 2)) (standard-length n l c k))
+  where
+    room : listing-refusal n l (2 * (n - 2)) (length out) ≡ none
+    room = rules-left n l _ _ c (k .numbers) (omega (arith, c .1)) ∙ k .rules
