@@ -1,6 +1,6 @@
 /* Measures every call of the part against plain C, and against the floor (its buffers read and written once); the
    rebuilds also against textbook neighbour joining, the table against counting quartets directly; import also with long
-   texts. Plain C of the table, and of all that judges names (plain_sheets.c), is of another algorithm.
+   texts. Plain C of the table, of a poll, and of all that judges names (plain_sheets.c), is of another algorithm.
    Each figure is a ratio of medians of rounds that take turns in this one run; no bare time is printed. With a file
    name it draws the growth of the calls with the number of leaves there, as an SVG. */
 #define _POSIX_C_SOURCE 200809L
@@ -12,18 +12,18 @@
 #include <string.h>
 #include <time.h>
 
-enum { MOST = 128, ROUNDS = 41, SHAPES = 3, COUNTS = 4, LONG = 1 << 20 };
+enum { MOST = 128, ROUNDS = 41, SHAPES = 3, COUNTS = 4, LONG = 1 << 20, TIES = 1 << 19 };
 static const size_t counts[COUNTS] = {16, 32, 64, 128};
 static const char *const shapes[SHAPES] = {"comb", "balanced", "random"};
 
 static size_t n;
 static uint16_t listing[2 * MOST], standard[2 * MOST], merges[2 * MOST], joined[2 * MOST], question[4];
-static uint32_t table[MOST * MOST], cells[MOST * MOST];
+static uint32_t table[MOST * MOST], cells[MOST * MOST], sixths[MOST * MOST];
 static int64_t gaps[MOST * MOST];
 static uint8_t sets[QUARTREE_SET_BYTES * MOST], bytes[4 * MOST], sheet[QUARTREE_SHEET_MOST_BYTES];
 static uint8_t text[QUARTREE_TEXT_BYTES(MOST)], text_out[QUARTREE_TEXT_BYTES(MOST)], long_text[LONG];
-static struct quartree_record records[QUARTREE_POLL_RECORDS(32)];
-static size_t sheet_len, text_len, long_len;
+static struct quartree_record records[QUARTREE_POLL_RECORDS(32)], ties[TIES];
+static size_t sheet_len, text_len, long_len, turn;
 static volatile uint64_t sink;
 
 static double now(void)
@@ -127,10 +127,29 @@ static void poll_of_tree(void)
                 }
 }
 
+/* Polls with every code by chance, one after the other, so many that a processor does not learn them by heart. */
+static void polls_with_ties(void)
+{
+    uint32_t seed = 1;
+    for (size_t k = 0; k < TIES; k++) {
+        seed = seed * 1664525u + 1013904223u;
+        ties[k] = records[k % QUARTREE_POLL_RECORDS(n)];
+        ties[k].code = (uint8_t)((seed >> 8) % 7);
+    }
+}
+
+/* The next of them. */
+static const struct quartree_record *next_ties(void)
+{
+    const size_t count = QUARTREE_POLL_RECORDS(n);
+    return ties + count * (turn++ % (TIES / count));
+}
+
 /* A tree of this shape, and all that the calls take of it; what the part and plain C make of them is the same. */
 static void make(int shape)
 {
     uint16_t expected[2 * MOST];
+    uint32_t polled[32 * 32];
     const size_t rows = 2 * (n - 2), size = rows * sizeof *standard;
     if (shape == 0)
         comb();
@@ -149,14 +168,15 @@ static void make(int shape)
     plain_table(n, listing, table);
     if (memcmp(table, cells, n * n * sizeof *cells) != 0)
         fail("plain C makes another table");
-    if (quartree_rebuild(n, cells, n * n, standard, rows) != 0 || memcmp(standard, expected, size) != 0)
+    if (quartree_rebuild(n, QUARTREE_COUNTS, cells, n * n, standard, rows) != 0
+        || memcmp(standard, expected, size) != 0)
         fail("a tree was not rebuilt");
     memset(standard, 0, sizeof standard);
-    if (quartree_rebuild_guided(n, cells, n * n, merges, 2 * (n - 1), standard, rows) != 0
+    if (quartree_rebuild_guided(n, QUARTREE_COUNTS, cells, n * n, merges, 2 * (n - 1), standard, rows) != 0
         || memcmp(standard, expected, size) != 0)
         fail("a guided tree was not rebuilt");
     memset(standard, 0, sizeof standard);
-    if (plain_rebuild(n, cells, standard) != 0 || memcmp(standard, expected, size) != 0)
+    if (plain_rebuild(n, 1, cells, standard) != 0 || memcmp(standard, expected, size) != 0)
         fail("plain C rebuilds another tree");
     sheet_of_table();
     if (quartree_sheet_table(sheet, sheet_len, table, n * n) != 256 * n
@@ -174,9 +194,22 @@ static void make(int shape)
         fail("an export was not imported");
     if (n <= 32) {
         poll_of_tree();
+        polls_with_ties();
+        for (size_t k = 0; k < n * n; k++)
+            sixths[k] = 6 * cells[k];
         if (quartree_poll(n, records, QUARTREE_POLL_RECORDS(n), table, n * n) != 0
-            || memcmp(table, cells, n * n * sizeof *cells) != 0)
+            || memcmp(table, sixths, n * n * sizeof *sixths) != 0)
             fail("a poll of a tree's own pairings has another table");
+        memset(standard, 0, sizeof standard);
+        if (quartree_rebuild(n, QUARTREE_POLL, table, n * n, standard, rows) != 0
+            || memcmp(standard, expected, size) != 0)
+            fail("a poll's tree was not rebuilt");
+        memset(standard, 0, sizeof standard);
+        if (plain_rebuild(n, 6, table, standard) != 0 || memcmp(standard, expected, size) != 0)
+            fail("plain C rebuilds another tree of a poll");
+        if (quartree_poll(n, ties, QUARTREE_POLL_RECORDS(n), table, n * n) != 0
+            || plain_poll(n, &ties[0].a, polled) != 0 || memcmp(table, polled, n * n * sizeof *polled) != 0)
+            fail("plain C adds up another poll");
     }
 }
 
@@ -228,23 +261,30 @@ static void table_plain(void)
     plain_table(n, listing, table);
 }
 static void table_floor(void) { floor_of(listing, 4 * (n - 2), table, n * n * sizeof *table); }
-static void gap(void) { sink += quartree_gap(n, cells, n * n, listing, 2 * (n - 2), gaps, n * n); }
+static void gap(void)
+{
+    sink += quartree_gap(n, QUARTREE_COUNTS, cells, n * n, listing, 2 * (n - 2), gaps, n * n);
+}
 static void gap_plain(void)
 {
     check_plain();
-    sink += (uint64_t)plain_gap(n, cells, listing, gaps);
+    sink += (uint64_t)plain_gap(n, 1, cells, listing, gaps);
 }
 static void gap_floor(void) { floor_of(cells, n * n * sizeof *cells, gaps, n * n * sizeof *gaps); }
-static void rebuild(void) { sink += quartree_rebuild(n, cells, n * n, standard, 2 * (n - 2)); }
-static void rebuild_plain(void) { sink += (uint64_t)plain_rebuild(n, cells, standard); }
+static void rebuild(void) { sink += quartree_rebuild(n, QUARTREE_COUNTS, cells, n * n, standard, 2 * (n - 2)); }
+static void rebuild_plain(void) { sink += (uint64_t)plain_rebuild(n, 1, cells, standard); }
 static void rebuild_floor(void) { floor_of(cells, n * n * sizeof *cells, standard, 4 * (n - 2)); }
+static void rebuild_poll(void) { sink += quartree_rebuild(n, QUARTREE_POLL, sixths, n * n, standard, 2 * (n - 2)); }
+static void rebuild_poll_plain(void) { sink += (uint64_t)plain_rebuild(n, 6, sixths, standard); }
 static void guided(void)
 {
-    sink += quartree_rebuild_guided(n, cells, n * n, merges, 2 * (n - 1), standard, 2 * (n - 2));
+    sink += quartree_rebuild_guided(n, QUARTREE_COUNTS, cells, n * n, merges, 2 * (n - 1), standard, 2 * (n - 2));
 }
-static void guided_plain(void) { sink += (uint64_t)plain_guided(n, cells, merges, standard); }
+static void guided_plain(void) { sink += (uint64_t)plain_guided(n, 1, cells, merges, standard); }
 static void poll(void) { sink += quartree_poll(n, records, QUARTREE_POLL_RECORDS(n), table, n * n); }
 static void poll_plain(void) { sink += (uint64_t)plain_poll(n, &records[0].a, table); }
+static void poll_ties(void) { sink += quartree_poll(n, next_ties(), QUARTREE_POLL_RECORDS(n), table, n * n); }
+static void poll_ties_plain(void) { sink += (uint64_t)plain_poll(n, &next_ties()->a, table); }
 static void poll_floor(void) { floor_of(records, 5 * QUARTREE_POLL_RECORDS(n), table, n * n * sizeof *table); }
 static void check_sheet(void) { sink += quartree_check_sheet(sheet, sheet_len); }
 static void check_sheet_plain(void)
@@ -287,7 +327,7 @@ static void joining(void)
     sink += joined[0];
 }
 
-enum { CALLS = 15 };
+enum { CALLS = 17 };
 static const struct {
     const char *name;
     size_t most; /* leaves */
@@ -303,6 +343,8 @@ static const struct {
     {"rebuild", 128, 40, rebuild, rebuild_plain, rebuild_floor},
     {"guided", 128, 40, guided, guided_plain, rebuild_floor},
     {"poll", 32, 20, poll, poll_plain, poll_floor},
+    {"poll_ties", 32, 20, poll_ties, poll_ties_plain, poll_floor},
+    {"rebuild_poll", 32, 40, rebuild_poll, rebuild_poll_plain, rebuild_floor},
     {"check_sheet", 128, 20, check_sheet, check_sheet_plain, check_sheet_floor},
     {"sheet_table", 128, 20, sheet_table, sheet_table_plain, sheet_table_floor},
     {"sheet_name", 128, 20, sheet_name, sheet_name_plain, check_sheet_floor},
@@ -372,7 +414,7 @@ static double damaged_ratio(void)
                 cells[j * n + i]++;
                 double t = rebuild_time(), *kept = &times[i * n + j];
                 *kept = pass == 0 ? t : least(*kept, t);
-                if (quartree_rebuild(n, cells, n * n, standard, 2 * (n - 2)) != 6)
+                if (quartree_rebuild(n, QUARTREE_COUNTS, cells, n * n, standard, 2 * (n - 2)) != 6)
                     fail("a damaged table was accepted");
                 cells[i * n + j]--;
                 cells[j * n + i]--;
@@ -566,7 +608,7 @@ static void print_rebuilds(void)
 static void draw(const char *path, double grown[CALLS][COUNTS])
 {
     static const char *const colours[] = {"#1b6ca8", "#c0392b", "#2e8b57", "#8e44ad", "#d68910", "#34495e"};
-    static const int drawn[] = {1, 4, 6, 7, 10, 12}; /* standardise, table, both rebuilds, and of a sheet */
+    static const int drawn[] = {1, 4, 6, 7, 12, 14}; /* standardise, table, both rebuilds, and of a sheet */
     FILE *f = fopen(path, "w");
     if (f == NULL)
         fail("the plot cannot be written");

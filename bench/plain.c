@@ -169,7 +169,7 @@ static int wrong_table(size_t n, const uint32_t *table)
     return 0;
 }
 
-int plain_gap(size_t n, const uint32_t *table, const uint16_t *listing, int64_t *out)
+int plain_gap(size_t n, uint32_t times, const uint32_t *table, const uint16_t *listing, int64_t *out)
 {
     uint32_t own[MOST * MOST];
     int wrong = wrong_table(n, table);
@@ -177,11 +177,12 @@ int plain_gap(size_t n, const uint32_t *table, const uint16_t *listing, int64_t 
         return wrong;
     plain_table(n, listing, own);
     for (size_t k = 0; k < n * n; k++)
-        out[k] = (int64_t)table[k] - (int64_t)own[k];
+        out[k] = (int64_t)table[k] - (int64_t)(times * own[k]);
     return 0;
 }
 
-/* A rebuild's subtrees: a leaf's label is the least leaf of its subtree, and sizes and names are kept by label. */
+/* A rebuild's subtrees: a leaf's label is the least leaf of its subtree, and sizes and names are kept by label. What
+   stands in p and m counts as many times as a tree's cell does. */
 typedef struct {
     uint32_t p[MOST + 1], label[MOST], m[MOST];
     size_t size[MOST];
@@ -225,10 +226,10 @@ static void join(size_t n, forest *f, size_t a, size_t b)
     f->size[a] += f->size[b];
 }
 
-static void single_leaves(size_t n, forest *f)
+static void single_leaves(size_t n, uint32_t times, forest *f)
 {
     for (size_t k = 0; k <= n; k++)
-        f->p[k] = k ? pairs(k) : 0;
+        f->p[k] = k ? times * pairs(k) : 0;
     for (size_t i = 0; i < n; i++) {
         f->label[i] = (uint32_t)i;
         f->m[i] = 0;
@@ -237,7 +238,7 @@ static void single_leaves(size_t n, forest *f)
     }
 }
 
-int plain_rebuild(size_t n, const uint32_t *table, uint16_t *out)
+int plain_rebuild(size_t n, uint32_t times, const uint32_t *table, uint16_t *out)
 {
     int wrong = wrong_table(n, table);
     if (wrong)
@@ -245,7 +246,7 @@ int plain_rebuild(size_t n, const uint32_t *table, uint16_t *out)
     forest f;
     children c;
     size_t r = 0;
-    single_leaves(n, &f);
+    single_leaves(n, times, &f);
     for (size_t t = n - 1; t >= 1; t--)
         for (size_t b = t + 1; b < n;) {
             if (f.label[b] != b || !eligible(n, table, &f, t, b)) {
@@ -265,13 +266,13 @@ int plain_rebuild(size_t n, const uint32_t *table, uint16_t *out)
     return 0;
 }
 
-int plain_guided(size_t n, const uint32_t *table, const uint16_t *merges, uint16_t *out)
+int plain_guided(size_t n, uint32_t times, const uint32_t *table, const uint16_t *merges, uint16_t *out)
 {
     int wrong = wrong_table(n, table);
     if (wrong)
         return wrong;
     forest f;
-    single_leaves(n, &f);
+    single_leaves(n, times, &f);
     for (size_t k = 0; k < n - 1; k++) {
         if (merges[2 * k] >= n || merges[2 * k + 1] >= n)
             return 12;
@@ -280,31 +281,46 @@ int plain_guided(size_t n, const uint32_t *table, const uint16_t *merges, uint16
             return 12;
         join(n, &f, a < b ? a : b, a < b ? b : a);
     }
-    return plain_rebuild(n, table, out);
+    return plain_rebuild(n, times, table, out);
 }
+
+/* What a code gives to the pairings 0, 1 and 2, ten bits each: no sum over the last leaf of a quartet is above 174. */
+#define SHARES(first, second, third) ((first) | (second) << 10 | (third) << 20)
 
 int plain_poll(size_t n, const uint8_t *records, uint32_t *out)
 {
-    uint32_t sums[32 * 32] = {0};
+    static const uint32_t shares[] = {SHARES(6, 0, 0), SHARES(0, 6, 0), SHARES(0, 0, 6), SHARES(2, 2, 2),
+                                      SHARES(3, 3, 0), SHARES(3, 0, 3), SHARES(0, 3, 3)};
+    uint32_t sums[32][32] = {{0}}; /* above the diagonal */
     const uint8_t *r = records;
     for (size_t a = 0; a < n; a++)
         for (size_t b = a + 1; b < n; b++)
-            for (size_t c = b + 1; c < n; c++)
+            for (size_t c = b + 1; c < n; c++) {
+                const uint8_t first[4] = {(uint8_t)a, (uint8_t)b, (uint8_t)c, 0}, one[4] = {0, 0, 0, 1};
+                uint32_t due, step, leaves, three = 0;
+                memcpy(&due, first, sizeof due);
+                memcpy(&step, one, sizeof step);
+                due += step * (uint32_t)c;
                 for (size_t d = c + 1; d < n; d++, r += 5) {
-                    if (r[0] != a || r[1] != b || r[2] != c || r[3] != d)
+                    memcpy(&leaves, r, sizeof leaves);
+                    due += step;
+                    if (leaves != due)
                         return 10;
-                    if (r[4] > 3)
+                    if (r[4] > 6)
                         return 11;
-                    if (r[4] == 3)
-                        continue;
-                    size_t x = r[4] == 0 ? b : r[4] == 1 ? c : d;
-                    size_t y = r[4] == 0 ? c : b, z = r[4] == 2 ? c : d;
-                    sums[a * n + x]++;
-                    sums[x * n + a]++;
-                    sums[y * n + z]++;
-                    sums[z * n + y]++;
+                    const uint32_t given = shares[r[4]];
+                    three += given;
+                    sums[c][d] += given & 1023;
+                    sums[b][d] += given >> 10 & 1023;
+                    sums[a][d] += given >> 20;
                 }
-    memcpy(out, sums, n * n * sizeof *out);
+                sums[a][b] += three & 1023;
+                sums[a][c] += three >> 10 & 1023;
+                sums[b][c] += three >> 20;
+            }
+    for (size_t i = 0; i < n; i++)
+        for (size_t j = i; j < n; j++)
+            out[i * n + j] = out[j * n + i] = sums[i][j];
     return 0;
 }
 
@@ -330,7 +346,7 @@ int plain_rebuild_sheet(const uint8_t *sheet, size_t len, uint8_t *out)
     int wrong = plain_sheet_table(sheet, len, table);
     size_t n = wrong ? 0 : sheet[len - 8];
     if (!wrong)
-        wrong = plain_rebuild(n, table, listing);
+        wrong = plain_rebuild(n, 1, table, listing);
     for (size_t k = 0; !wrong && k < 2 * (n - 2); k++) {
         out[2 * k] = (uint8_t)listing[k];
         out[2 * k + 1] = (uint8_t)(listing[k] >> 8);

@@ -13,17 +13,19 @@ void plain_standardise(size_t n, const uint16_t *listing, uint16_t *out);
 void plain_table(size_t n, const uint16_t *listing, uint32_t *out);
 /* The table, by counting quartets edge by edge. */
 void direct_table(size_t n, const uint16_t *listing, uint32_t *out);
-/* The gap: checks 4 and 5, then the table's cells less the tree's. 0, 4 or 5. */
-int plain_gap(size_t n, const uint32_t *table, const uint16_t *listing, int64_t *out);
-/* The rebuild by eligible merges, n * n: checks 4 and 5, then the standard listing. 0, 4, 5 or 6. */
-int plain_rebuild(size_t n, const uint32_t *table, uint16_t *out);
+/* The gap of a table in which a tree's cell counts so many times: checks 4 and 5, then the table's cells less those.
+   0, 4 or 5. */
+int plain_gap(size_t n, uint32_t times, const uint32_t *table, const uint16_t *listing, int64_t *out);
+/* The rebuild of such a table by eligible merges, n * n: checks 4 and 5, then the standard listing. 0, 4, 5 or 6. */
+int plain_rebuild(size_t n, uint32_t times, const uint32_t *table, uint16_t *out);
 /* The guided rebuild: checks 4 and 5, the merges, and then the listing by plain_rebuild. 0, 4, 5 or 12. */
-int plain_guided(size_t n, const uint32_t *table, const uint16_t *merges, uint16_t *out);
+int plain_guided(size_t n, uint32_t times, const uint32_t *table, const uint16_t *merges, uint16_t *out);
 /* The splits, sixteen bytes each. */
 void plain_splits(size_t n, const uint16_t *listing, uint8_t *out);
 /* 0, 1 or 2: how the tree pairs the four leaves. */
 int plain_pairing(size_t n, const uint16_t *listing, const uint16_t question[4]);
-/* The sums of a poll of records of five bytes: 0, 10 or 11. All is judged before the first write. */
+/* The sums of a poll of records of five bytes, in sixths: 0, 10 or 11. All is judged before the first write. It is the
+   fastest that was found: no branch by the code, and three of a record's six sums kept while its last leaf goes up. */
 int plain_poll(size_t n, const uint8_t *records, uint32_t *out);
 /* A sheet judged by its trailer: 0, or 13, 1, 14, 15, 16; and where its cells begin. */
 int plain_sheet(const uint8_t *sheet, size_t len, size_t *n, size_t *offset);

@@ -2,7 +2,7 @@
 
    A call runs on a thread whose stack was filled with a pattern, and the bytes that have lost it are counted, less
    those of a thread that calls nothing. Every call is made with trees of several shapes, and with every fault that it
-   can be refused for; what is printed is the most that it took. */
+   can be refused for; what is printed is the most that it took. A poll and its table have 32 leaves. */
 #define _POSIX_C_SOURCE 200809L
 #include "../include/quartree.h"
 #include <pthread.h>
@@ -19,6 +19,7 @@ static int64_t gaps[N * N];
 static uint8_t sets[QUARTREE_SPLIT_BYTES(N)], bytes[QUARTREE_LISTING_BYTES(N)], sheet[QUARTREE_SHEET_MOST_BYTES + 1];
 static uint8_t text[QUARTREE_TEXT_BYTES(N)], text_out[QUARTREE_TEXT_BYTES(N)];
 static struct quartree_record records[QUARTREE_POLL_RECORDS(POLL)];
+static uint16_t comb[QUARTREE_LISTING_NUMBERS(POLL)], comb_merges[QUARTREE_MERGE_NUMBERS(POLL)];
 static size_t leaves, poll_leaves, numbers, cells, room, sheet_len, names_len, text_len, leaf;
 static uint64_t reply;
 
@@ -36,19 +37,38 @@ static void standardise(void)
 static void splits(void) { reply = quartree_splits(leaves, listing, numbers, sets, of(sizeof sets)); }
 static void pairing(void) { reply = quartree_pairing(leaves, listing, numbers, question, 4); }
 static void write_table(void) { reply = quartree_table(leaves, listing, numbers, table_out, of(N * N)); }
-static void gap(void) { reply = quartree_gap(leaves, table, cells, listing, numbers, gaps, of(N * N)); }
+static void gap(void)
+{
+    reply = quartree_gap(leaves, QUARTREE_COUNTS, table, cells, listing, numbers, gaps, of(N * N));
+}
 static void rebuild(void)
 {
-    reply = quartree_rebuild(leaves, table, cells, standard, of(QUARTREE_LISTING_NUMBERS(N)));
+    reply = quartree_rebuild(leaves, QUARTREE_COUNTS, table, cells, standard, of(QUARTREE_LISTING_NUMBERS(N)));
 }
 static void guided(void)
 {
-    reply = quartree_rebuild_guided(leaves, table, cells, merges, QUARTREE_MERGE_NUMBERS(N), standard,
+    reply = quartree_rebuild_guided(leaves, QUARTREE_COUNTS, table, cells, merges, QUARTREE_MERGE_NUMBERS(N), standard,
                                     of(QUARTREE_LISTING_NUMBERS(N)));
 }
 static void poll(void)
 {
     reply = quartree_poll(poll_leaves, records, QUARTREE_POLL_RECORDS(POLL), sums, of(POLL * POLL));
+}
+/* The table that the poll has left. */
+static void gap_of_poll(void)
+{
+    reply = quartree_gap(poll_leaves, QUARTREE_POLL, sums, POLL * POLL, comb, QUARTREE_LISTING_NUMBERS(POLL), gaps,
+                         of(POLL * POLL));
+}
+static void rebuild_of_poll(void)
+{
+    reply = quartree_rebuild(poll_leaves, QUARTREE_POLL, sums, POLL * POLL, standard,
+                             of(QUARTREE_LISTING_NUMBERS(POLL)));
+}
+static void guided_of_poll(void)
+{
+    reply = quartree_rebuild_guided(poll_leaves, QUARTREE_POLL, sums, POLL * POLL, comb_merges,
+                                    QUARTREE_MERGE_NUMBERS(POLL), standard, of(QUARTREE_LISTING_NUMBERS(POLL)));
 }
 static void check_sheet(void) { reply = quartree_check_sheet(sheet, sheet_len); }
 static void sheet_table(void) { reply = quartree_sheet_table(sheet, sheet_len, table_out, of(N * N)); }
@@ -68,7 +88,8 @@ static const struct {
     void (*call)(void);
 } calls[] = {
     {"check", check}, {"standardise", standardise}, {"splits", splits}, {"pairing", pairing}, {"table", write_table},
-    {"gap", gap}, {"rebuild", rebuild}, {"rebuild_guided", guided}, {"poll", poll}, {"check_sheet", check_sheet},
+    {"gap", gap}, {"rebuild", rebuild}, {"rebuild_guided", guided}, {"poll", poll}, {"gap of a poll", gap_of_poll},
+    {"rebuild of a poll", rebuild_of_poll}, {"rebuild_guided of a poll", guided_of_poll}, {"check_sheet", check_sheet},
     {"sheet_table", sheet_table}, {"sheet_name", sheet_name}, {"rebuild_sheet", rebuild_sheet},
     {"export", write_text}, {"import", read_text},
 };
@@ -162,20 +183,34 @@ static void fill_text(size_t turned)
     }
 }
 
-static void fill(int shape, size_t turned)
+/* The poll of a comb's own pairings, and its listing and merges. */
+static void fill_poll(void)
 {
     size_t k = 0;
+    for (uint8_t a = 0; a < POLL; a++)
+        for (uint8_t b = (uint8_t)(a + 1); b < POLL; b++)
+            for (uint8_t c = (uint8_t)(b + 1); c < POLL; c++)
+                for (uint8_t d = (uint8_t)(c + 1); d < POLL; d++, k++)
+                    records[k] = (struct quartree_record){a, b, c, d, 0};
+    for (size_t row = 0; row < POLL - 2; row++) {
+        comb[2 * row] = (uint16_t)(POLL - 2 - row);
+        comb[2 * row + 1] = (uint16_t)(row == 0 ? POLL - 1 : POLL + row - 1);
+    }
+    for (size_t step = 0; step < POLL - 1; step++) {
+        comb_merges[2 * step] = (uint16_t)(POLL - 1 - step);
+        comb_merges[2 * step + 1] = (uint16_t)(POLL - 2 - step);
+    }
+}
+
+static void fill(int shape, size_t turned)
+{
     fill_tree(shape, turned);
     memcpy(table, own_table, sizeof table);
     for (uint16_t i = 0; i < 4; i++)
         question[i] = (uint16_t)(i * (N - 1) / 3);
     fill_sheet();
     fill_text(turned);
-    for (uint8_t a = 0; a < POLL; a++)
-        for (uint8_t b = (uint8_t)(a + 1); b < POLL; b++)
-            for (uint8_t c = (uint8_t)(b + 1); c < POLL; c++)
-                for (uint8_t d = (uint8_t)(c + 1); d < POLL; d++, k++)
-                    records[k] = (struct quartree_record){a, b, c, d, (uint8_t)(k % 4)};
+    fill_poll();
     leaves = N;
     poll_leaves = POLL;
     numbers = QUARTREE_LISTING_NUMBERS(N);
@@ -230,7 +265,12 @@ static void leaf_not_there(void)
     leaf = N;
 }
 static void record_not_due(void) { records[LAST_RECORD].a++; }
-static void code_above_3(void) { records[LAST_RECORD].code = 4; }
+static void code_above_6(void) { records[LAST_RECORD].code = 7; }
+static void ties(void)
+{
+    for (size_t k = 0; k <= LAST_RECORD; k++)
+        records[k].code = (uint8_t)(k % 7);
+}
 static void stop_at(size_t step) { merges[2 * step + 1] = merges[2 * step]; }
 static void first_proposal_stops(void) { stop_at(0); }
 static void middle_proposal_stops(void) { stop_at(LAST_STEP / 2); }
@@ -253,7 +293,7 @@ static void name_unknown(void) { text[1] = 'x'; }
 
 static void (*const faults[])(void) = {
     none, too_many_leaves, input_short, room_short, diagonal_filled, halves_unequal, table_of_zeros, one_cell_wrong,
-    any_table, child_not_allowed, child_again, leaf_not_there, record_not_due, code_above_3, first_proposal_stops,
+    any_table, child_not_allowed, child_again, leaf_not_there, record_not_due, code_above_6, ties, first_proposal_stops,
     middle_proposal_stops, last_proposal_stops, other_ending, offset_too_great, bad_byte_in_last_name, last_name_again,
     text_stops, brackets_alone, node_of_one_part, name_unknown,
 };

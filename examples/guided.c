@@ -29,8 +29,8 @@ static void propose(const uint16_t merges[QUARTREE_MERGE_NUMBERS(N)])
         printf("%s%d %d", step == 0 ? "" : ", ", merges[2 * step], merges[2 * step + 1]);
     printf("\n");
 
-    uint64_t reply = quartree_rebuild_guided(N, table, QUARTREE_TABLE_CELLS(N), merges, QUARTREE_MERGE_NUMBERS(N),
-                                             listing, NUMBERS);
+    uint64_t reply = quartree_rebuild_guided(N, QUARTREE_COUNTS, table, QUARTREE_TABLE_CELLS(N), merges,
+                                             QUARTREE_MERGE_NUMBERS(N), listing, NUMBERS);
     unsigned number = QUARTREE_NUMBER(reply);
     if (number == QUARTREE_ACCEPTED) {
         printf("  accepted, listing");

@@ -42,7 +42,7 @@ int main(int argc, char **argv)
     size_t sheet_len = read_sheet(argv[1], sheet);
     size_t n = (size_t)accepted(quartree_sheet_table(sheet, sheet_len, table, CELLS));
     size_t numbers = QUARTREE_LISTING_NUMBERS(n);
-    accepted(quartree_rebuild(n, table, QUARTREE_TABLE_CELLS(n), listing, numbers));
+    accepted(quartree_rebuild(n, QUARTREE_COUNTS, table, QUARTREE_TABLE_CELLS(n), listing, numbers));
 
     if (argc == 3) {
         int same = draws(sheet_len, (const uint8_t *)argv[2], strlen(argv[2]), numbers);

@@ -27,7 +27,8 @@ static void rebuild(const char *path, struct typing *typing)
     uint64_t reply = quartree_sheet_table(typing->sheet, typing->len, typing->table, CELLS);
     if (QUARTREE_NUMBER(reply) == QUARTREE_ACCEPTED) {
         typing->n = (size_t)QUARTREE_FIGURE(reply);
-        reply = quartree_rebuild(typing->n, typing->table, QUARTREE_TABLE_CELLS(typing->n), typing->listing, NUMBERS);
+        reply = quartree_rebuild(typing->n, QUARTREE_COUNTS, typing->table, QUARTREE_TABLE_CELLS(typing->n),
+                                 typing->listing, NUMBERS);
     }
     if (QUARTREE_NUMBER(reply) != QUARTREE_ACCEPTED) {
         printf("%s: refused %u: %s\n", path, QUARTREE_NUMBER(reply), quartree_refusal_text(QUARTREE_NUMBER(reply)));

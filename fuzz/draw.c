@@ -89,6 +89,13 @@ size_t draw_poll_leaf_count(struct source *source)
     return refused[below(source, LENGTH(refused))];
 }
 
+uint32_t draw_word(struct source *source)
+{
+    static const uint32_t polls[] = {QUARTREE_POLL, 2, 6, 256, 65536, (uint32_t)1 << 31, UINT32_MAX};
+    uint8_t kind = take(source);
+    return kind < 160 ? QUARTREE_COUNTS : polls[kind % LENGTH(polls)];
+}
+
 /* A length that does not fit in one case of six. */
 static size_t draw_length(struct source *source, size_t fitting)
 {
@@ -361,6 +368,14 @@ void table_of_merges(size_t n, const uint16_t *merges, uint32_t *table)
     }
 }
 
+void scale_table(struct source *source, size_t n, uint32_t word, uint32_t *table)
+{
+    bool told = take(source) < 240;
+    if (fitted(n) && (word != QUARTREE_COUNTS) == told)
+        for (size_t cell = 0; cell < QUARTREE_TABLE_CELLS(n); cell++)
+            table[cell] *= 6;
+}
+
 static void damage_step(struct source *source, size_t n, uint16_t *merges)
 {
     size_t step = below(source, QUARTREE_MERGES(n)), other = below(source, QUARTREE_MERGES(n));
@@ -500,7 +515,7 @@ static void damage_record(struct source *source, size_t count, struct quartree_r
         record->d = before.c;
         break;
     case 7:
-        record->code = 4;
+        record->code = 7;
         break;
     default:
         record->code = take(source);
@@ -523,7 +538,7 @@ size_t draw_poll(struct source *source, size_t n, struct quartree_record *record
             for (size_t c = b + 1; c < n; c++)
                 for (size_t d = c + 1; d < n; d++)
                     records[fitting++] = (struct quartree_record){(uint8_t)a, (uint8_t)b, (uint8_t)c, (uint8_t)d,
-                                                                  (uint8_t)below(source, 4)};
+                                                                  (uint8_t)below(source, 7)};
     for (unsigned left = draw_damages(source); has_poll && left > 0; left--)
         damage_record(source, fitting, records);
     count = draw_length(source, fitting);

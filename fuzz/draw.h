@@ -39,6 +39,9 @@ size_t below(struct source *source, size_t bound);
 size_t draw_leaf_count(struct source *source);
 size_t draw_poll_leaf_count(struct source *source);
 
+/* The caller's word for a table: mostly that it is one of counts, else any number. */
+uint32_t draw_word(struct source *source);
+
 /* The room of an output: mostly the result's length, else less, or more by up to SLACK. */
 size_t draw_room(struct source *source, size_t result);
 
@@ -48,6 +51,9 @@ void draw_listing(struct source *source, size_t n, uint16_t *listing);
 void draw_merges(struct source *source, size_t n, uint16_t *merges);
 void merges_of_listing(size_t n, const uint16_t *listing, uint16_t *merges);
 void table_of_merges(size_t n, const uint16_t *merges, uint32_t *table);
+
+/* Makes a table six times as large where the word for it is that it is a poll's; seldom where it is not. */
+void scale_table(struct source *source, size_t n, uint32_t word, uint32_t *table);
 
 /* Damage to a whole input, none in most cases: to its elements and then to its length, which is returned. */
 size_t damage_listing(struct source *source, size_t n, uint16_t *listing);

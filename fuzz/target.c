@@ -46,6 +46,7 @@ extern __typeof__(quartree_import) reference_import;
    trailer says and is not an argument. */
 struct call {
     enum entry entry;
+    uint32_t word; /* for a table */
     size_t n, leaf;
     size_t buffers;
     struct lent lent[MOST_LENT];
@@ -58,8 +59,9 @@ _Static_assert(sizeof(int64_t) * MOST_CELLS + GUARD_BYTES <= MEMORY_BYTES, "ever
 enum { NUMBERS = 20 };
 static unsigned long answered[ENTRIES][NUMBERS];
 
-/* What the fuzzer takes for new besides places in the code: an entry with a number at a class of leaf counts. */
-enum { CLASSES = 34 };
+/* What the fuzzer takes for new besides places in the code: an entry with a number at a class of leaf counts, for a
+   poll's table another one. */
+enum { SIZES = 34, CLASSES = 2 * SIZES };
 __attribute__((section("__libfuzzer_extra_counters"))) static uint8_t reached[ENTRIES][NUMBERS][CLASSES];
 
 /* ---- Reading a call ---------------------------------------------------------------------------------------------- */
@@ -107,18 +109,27 @@ static void read_listing_call(struct source *source, struct call *call)
     }
 }
 
+/* The word for a table, and its leaf count. */
+static size_t read_word_and_count(struct source *source, struct call *call)
+{
+    call->word = draw_word(source);
+    call->n = call->word == QUARTREE_COUNTS ? draw_leaf_count(source) : draw_poll_leaf_count(source);
+    return call->n;
+}
+
 /* gap: a table and a listing, of one tree or of two. */
 static void read_gap_call(struct source *source, struct call *call)
 {
     static uint16_t listing[MOST_NUMBERS], merges[MOST_NUMBERS];
     static uint32_t table[MOST_CELLS];
-    size_t n = call->n = draw_leaf_count(source), len, cells;
+    size_t n = read_word_and_count(source, call), len, cells;
     draw_listing(source, n, listing);
     if (take(source) < 128)
         merges_of_listing(n, listing, merges);
     else
         draw_merges(source, n, merges);
     table_of_merges(n, merges, table);
+    scale_table(source, n, call->word, table);
     cells = damage_table(source, n, table);
     len = damage_listing(source, n, listing);
     lend_next(call, "table", table, sizeof *table, cells);
@@ -131,9 +142,10 @@ static void read_rebuild_call(struct source *source, struct call *call)
 {
     static uint16_t merges[MOST_NUMBERS];
     static uint32_t table[MOST_CELLS];
-    size_t n = call->n = draw_leaf_count(source), len, cells;
+    size_t n = read_word_and_count(source, call), len, cells;
     draw_merges(source, n, merges);
     table_of_merges(n, merges, table);
+    scale_table(source, n, call->word, table);
     cells = damage_table(source, n, table);
     lend_next(call, "table", table, sizeof *table, cells);
     if (call->entry == REBUILD_GUIDED) {
@@ -203,6 +215,7 @@ static void read_call(struct source *source, struct call *call)
     call->entry = (enum entry)below(source, ENTRIES);
     call->buffers = 0;
     call->leaf = 0;
+    call->word = QUARTREE_COUNTS;
     switch (call->entry) {
     case GAP:
         read_gap_call(source, call);
@@ -251,11 +264,11 @@ static uint64_t make_call(const struct call *call, enum taker taker)
     case TABLE:
         return ASK(table, call->n, LENT(0), LENT(1));
     case GAP:
-        return ASK(gap, call->n, LENT(0), LENT(1), LENT(2));
+        return ASK(gap, call->n, call->word, LENT(0), LENT(1), LENT(2));
     case REBUILD:
-        return ASK(rebuild, call->n, LENT(0), LENT(1));
+        return ASK(rebuild, call->n, call->word, LENT(0), LENT(1));
     case REBUILD_GUIDED:
-        return ASK(rebuild_guided, call->n, LENT(0), LENT(1), LENT(2));
+        return ASK(rebuild_guided, call->n, call->word, LENT(0), LENT(1), LENT(2));
     case POLL:
         return ASK(poll, call->n, LENT(0), LENT(1));
     case SHEET_TABLE:
@@ -278,6 +291,8 @@ static void print_call(const struct call *call)
     printf("call: quartree_%s, n = %zu", entry_name[call->entry], call->n);
     if (call->entry == SHEET_NAME)
         printf(", leaf = %zu", call->leaf);
+    if (call->entry == GAP || call->entry == REBUILD || call->entry == REBUILD_GUIDED)
+        printf(", poll = %" PRIu32, call->word);
     putchar('\n');
     for (size_t place = 0; place < call->buffers; place++)
         print_lent(&call->lent[place]);
@@ -335,7 +350,7 @@ static void count_answer(const struct call *call, uint64_t reply)
     if (number >= NUMBERS)
         return;
     answered[call->entry][number]++;
-    reached[call->entry][number][class_of(call->n)] = 1;
+    reached[call->entry][number][class_of(call->n) + (call->word == QUARTREE_COUNTS ? 0 : SIZES)] = 1;
 }
 
 int LLVMFuzzerInitialize(int *argc, char ***argv)

@@ -1,11 +1,11 @@
 /* Holds quartree.h against the scope and the archive: the numbers, sizes and figures that the header names stand here
    once more, as the scope has them, and every call is made through the header.
 
-   Each call is accepted at its least leaf count, at 5 and at its most, with lengths that the macros say. At 5 leaves
-   it is refused in every way that its comment names: by one fault alone, and by that fault with all that are judged
-   after it. An accepted call has to write its result and nothing else; a refused one nothing. The tree is a comb: at 5
-   leaves that of the scope's sheet and text. It is C and C++. The first claim that fails is printed and ends the
-   program. */
+   Each call is accepted at its least leaf count, at 5 and at its most, with lengths that the macros say; a call that
+   takes a table with one of counts and with a poll's. At 5 leaves it is refused in every way that its comment names: by
+   one fault alone, and by that fault with all that are judged after it. An accepted call has to write its result and
+   nothing else; a refused one nothing. The tree is a comb: at 5 leaves that of the scope's sheet and text. It is C and
+   C++. The first claim that fails is printed and ends the program. */
 #include "quartree.h"
 #include "quartree.h"
 #include <stdio.h>
@@ -41,6 +41,7 @@ HOLDS(refusal_19, QUARTREE_REFUSED_UNMATCHED == 19);
 
 HOLDS(leaves, QUARTREE_LEAST_LEAVES == 3 && QUARTREE_MOST_LEAVES == 128);
 HOLDS(poll_leaves, QUARTREE_POLL_LEAST_LEAVES == 4 && QUARTREE_POLL_MOST_LEAVES == 32);
+HOLDS(words_for_a_table, QUARTREE_COUNTS == 0 && QUARTREE_POLL != 0);
 HOLDS(sheet_bytes, QUARTREE_SHEET_MOST_BYTES == 21512 && 128 * 41 + 128 * 127 + 8 == 21512);
 HOLDS(listing_numbers, QUARTREE_LISTING_NUMBERS(3) == 2 && QUARTREE_LISTING_NUMBERS(128) == 252);
 HOLDS(listing_bytes, QUARTREE_LISTING_BYTES(3) == 4 && QUARTREE_LISTING_BYTES(128) == 504);
@@ -88,14 +89,15 @@ struct lent {
 
 static struct lent lent, before;
 
-/* The numbers that go with them: leaf count, lengths, room, and the leaf that is asked for. */
+/* The numbers that go with them: leaf count, word for the table, lengths, room, and the leaf that is asked for. */
+static uint32_t word;
 static size_t n, listing_len, question_len, cells, merges_len, count, sheet_len, text_len, room, leaf;
 
 /* The results that are due. No gap is left between a tree and its own table. */
 static uint16_t standard[QUARTREE_LISTING_NUMBERS(128)];
 static uint8_t splits[QUARTREE_SPLIT_BYTES(128)], listing_bytes_due[QUARTREE_LISTING_BYTES(128)];
 static uint8_t text[QUARTREE_TEXT_BYTES(128)];
-static uint32_t table[QUARTREE_TABLE_CELLS(128)];
+static uint32_t table[QUARTREE_TABLE_CELLS(128)], sixths[QUARTREE_TABLE_CELLS(128)];
 static const int64_t gaps[QUARTREE_TABLE_CELLS(128)] = {0};
 
 /* The scope's sheet of five strains, and the standard listing of its tree. */
@@ -133,6 +135,7 @@ static void fill_tree(size_t leaves)
         for (size_t j = i; j < leaves; j++) {
             size_t cell = i == j ? 0 : pairs_of(i) + pairs_of(leaves - 1 - j);
             table[leaves * i + j] = table[leaves * j + i] = (uint32_t)cell;
+            sixths[leaves * i + j] = sixths[leaves * j + i] = (uint32_t)(6 * cell);
         }
     memcpy(lent.table, table, QUARTREE_TABLE_CELLS(leaves) * sizeof *table);
     for (size_t step = 0; step < QUARTREE_MERGES(leaves); step++) {
@@ -233,12 +236,12 @@ static uint64_t pairing(void)
 static uint64_t write_table(void) { return quartree_table(n, lent.listing, listing_len, lent.out.cells, room); }
 static uint64_t gap(void)
 {
-    return quartree_gap(n, lent.table, cells, lent.listing, listing_len, lent.out.gaps, room);
+    return quartree_gap(n, word, lent.table, cells, lent.listing, listing_len, lent.out.gaps, room);
 }
-static uint64_t rebuild(void) { return quartree_rebuild(n, lent.table, cells, lent.out.numbers, room); }
+static uint64_t rebuild(void) { return quartree_rebuild(n, word, lent.table, cells, lent.out.numbers, room); }
 static uint64_t guided(void)
 {
-    return quartree_rebuild_guided(n, lent.table, cells, lent.merges, merges_len, lent.out.numbers, room);
+    return quartree_rebuild_guided(n, word, lent.table, cells, lent.merges, merges_len, lent.out.numbers, room);
 }
 static uint64_t poll(void) { return quartree_poll(n, lent.records, count, lent.out.cells, room); }
 static uint64_t check_sheet(void) { return quartree_check_sheet(lent.sheet, sheet_len); }
@@ -279,7 +282,7 @@ static uint64_t place_of_last_name(void)
 /* What a call takes. */
 enum {
     COUNT = 1, POLL_COUNT = 2, LISTING = 4, QUESTION = 8, TABLE = 16, MERGES = 32, RECORDS = 64, SHEET = 128,
-    LEAF = 256, OUTPUT = 512, TEXT = 1024
+    LEAF = 256, OUTPUT = 512, TEXT = 1024, POLL_TABLE = 2048
 };
 
 struct entry {
@@ -304,7 +307,13 @@ static const struct entry entries[] = {
     {"rebuild", rebuild, COUNT | TABLE | OUTPUT, 3, 128, {1, 2, 3, 4, 5, 6}, nothing, of_listing, standard, 2},
     {"rebuild_guided", guided, COUNT | TABLE | MERGES | OUTPUT, 3, 128, {1, 2, 3, 4, 5, 12}, nothing, of_listing,
      standard, 2},
-    {"poll", poll, POLL_COUNT | RECORDS | OUTPUT, 4, 32, {1, 2, 3, 10, 11}, nothing, of_table, table, 4},
+    {"gap of a poll", gap, POLL_COUNT | LISTING | TABLE | POLL_TABLE | OUTPUT, 4, 32, {1, 2, 3, 7, 8, 4, 5}, nothing,
+     of_table, gaps, 8},
+    {"rebuild of a poll", rebuild, POLL_COUNT | TABLE | POLL_TABLE | OUTPUT, 4, 32, {1, 2, 3, 4, 5, 6}, nothing,
+     of_listing, standard, 2},
+    {"rebuild_guided of a poll", guided, POLL_COUNT | TABLE | POLL_TABLE | MERGES | OUTPUT, 4, 32, {1, 2, 3, 4, 5, 12},
+     nothing, of_listing, standard, 2},
+    {"poll", poll, POLL_COUNT | RECORDS | OUTPUT, 4, 32, {1, 2, 3, 10, 11}, nothing, of_table, sixths, 4},
     {"check_sheet", check_sheet, SHEET, 3, 128, {13, 1, 14, 15, 16}, leaf_count, no_cells, standard, 1},
     {"sheet_table", sheet_table, SHEET | OUTPUT, 3, 128, {13, 1, 14, 3, 15, 16}, leaf_count, of_table, table, 4},
     {"sheet_name", sheet_name, SHEET | LEAF, 3, 128, {13, 1, 14, 15, 16, 9}, place_of_last_name, no_cells, standard, 1},
@@ -347,7 +356,7 @@ static void leaf_5_asked(void) { lent.question[2] = 5; }
 static void leaf_asked_again(void) { lent.question[3] = lent.question[0]; }
 static void leaf_5_named(void) { leaf = 5; }
 static void record_not_due(void) { lent.records[2].d--; }
-static void code_4(void) { lent.records[3].code = 4; }
+static void code_7(void) { lent.records[3].code = 7; }
 static void proposals_from_0_2(void)
 {
     lent.merges[0] = 0;
@@ -435,7 +444,7 @@ static const struct fault faults[] = {
     {QUARTREE_REFUSED_QUESTION, 9, 3, QUESTION, leaf_asked_again, 0},
     {QUARTREE_REFUSED_QUESTION, 9, 0, LEAF, leaf_5_named, 0},
     {QUARTREE_REFUSED_RECORD, 10, 2, RECORDS, record_not_due, 0},
-    {QUARTREE_REFUSED_PAIRING_CODE, 11, 3, RECORDS, code_4, 0},
+    {QUARTREE_REFUSED_PAIRING_CODE, 11, 3, RECORDS, code_7, 0},
     {QUARTREE_REFUSED_PROPOSAL, 12, 0, MERGES, proposals_from_0_2, 0},
     {QUARTREE_REFUSED_PROPOSAL, 12, 2, MERGES, leaf_5_proposed, 0},
     {QUARTREE_REFUSED_PROPOSAL, 12, 3, MERGES, subtree_twice, 0},
@@ -481,6 +490,9 @@ static void fill_for(const struct entry *entry, size_t leaves)
 {
     fill(leaves);
     room = entry->result_cells(leaves);
+    word = (entry->takes & POLL_TABLE) != 0 ? QUARTREE_POLL : QUARTREE_COUNTS;
+    if (word == QUARTREE_POLL)
+        memcpy(lent.table, sixths, cells * sizeof *sixths);
 }
 
 static uint64_t make(const struct entry *entry)
@@ -566,17 +578,85 @@ static void try_sizes(const struct entry *entry, size_t leaves)
         }
 }
 
-/* The scope's gaps: of the table of zeros -3 at (0,1) and 0 at (0,3), and the greatest there is. */
+/* The gap of the table of zeros at (0,1). */
+static int64_t lower_end(size_t leaves, uint32_t said)
+{
+    fill(leaves);
+    room = cells;
+    word = said;
+    memset(lent.table, 0, sizeof lent.table);
+    return gap() == 0 ? lent.out.gaps[1] : 0;
+}
+
+/* The scope's gaps: of the table of zeros -3 at (0,1) and 0 at (0,3), and the greatest and least there are. */
 static void try_gaps(void)
 {
+    claim(lower_end(128, QUARTREE_COUNTS) == -7875 && lower_end(32, QUARTREE_POLL) == -2610
+              && lower_end(5, QUARTREE_POLL) == -18,
+          "gap", "has another lower end", 0);
     fill(5);
     room = cells;
+    word = QUARTREE_COUNTS;
     memset(lent.table, 0, sizeof lent.table);
     lent.table[5 * 0 + 3] = lent.table[5 * 3 + 0] = UINT32_MAX;
     claim(gap() == 0 && lent.out.gaps[5 * 0 + 1] == -3 && lent.out.gaps[5 * 0 + 3] == 4294967295, "gap",
           "has other numbers", 0);
     lent.table[5 * 0 + 3] = lent.table[5 * 3 + 0] = 0;
     claim(gap() == 0 && lent.out.gaps[5 * 0 + 3] == 0, "gap", "has other numbers", 0);
+}
+
+/* A table of counts is the tree's where the word for it is 0, and six times it where the word is any other number. */
+static void try_words(void)
+{
+    static const uint32_t said[] = {QUARTREE_COUNTS, QUARTREE_POLL, 2, 6, 77, 256, 65536, 1u << 31, UINT32_MAX};
+    for (size_t w = 0; w < sizeof said / sizeof *said; w++)
+        for (uint32_t is_poll = 0; is_poll < 2; is_poll++) {
+            int right = (said[w] != 0) == (is_poll != 0);
+            fill(5);
+            memcpy(lent.table, is_poll != 0 ? sixths : table, cells * sizeof *table);
+            word = said[w];
+            room = listing_len;
+            claim((rebuild() == QUARTREE_ACCEPTED) == right, "rebuild", "takes another word for a table", 6);
+            claim((guided() == QUARTREE_ACCEPTED) == right, "rebuild_guided", "takes another word for a table", 12);
+            room = cells;
+            claim(gap() == QUARTREE_ACCEPTED && (memcmp(lent.out.gaps, gaps, cells * sizeof *gaps) == 0) == right,
+                  "gap", "takes another word for a table", 0);
+        }
+}
+
+/* What each code adds to the cells (0,1), (0,2), (0,3), (1,2), (1,3) and (2,3) of four leaves; and the total of a poll
+   with every code. */
+static void try_codes(void)
+{
+    static const uint32_t added[7][6] = {{6, 0, 0, 0, 0, 6}, {0, 6, 0, 0, 6, 0}, {0, 0, 6, 6, 0, 0},
+                                         {2, 2, 2, 2, 2, 2}, {3, 3, 0, 0, 3, 3}, {3, 0, 3, 3, 0, 3},
+                                         {0, 3, 3, 3, 3, 0}};
+    uint32_t total = 0;
+    for (unsigned code = 0; code < 7; code++) {
+        size_t place = 0;
+        fill(4);
+        room = cells;
+        lent.records[0].code = (uint8_t)code;
+        claim(poll() == QUARTREE_ACCEPTED, "poll", "refuses a code", 0);
+        for (size_t i = 0; i < n; i++)
+            for (size_t j = i + 1; j < n; j++, place++) {
+                claim(lent.out.cells[n * i + j] == added[code][place], "poll", "adds something else", 0);
+                claim(lent.out.cells[n * j + i] == added[code][place], "poll", "adds something else", 0);
+            }
+    }
+    fill(32);
+    room = cells;
+    for (size_t record = 0; record < count; record++)
+        lent.records[record].code = (uint8_t)(record % 7);
+    claim(poll() == QUARTREE_ACCEPTED, "poll", "refuses a code", 0);
+    for (size_t i = 0; i < n; i++)
+        for (size_t j = i + 1; j < n; j++)
+            total += lent.out.cells[n * i + j];
+    claim(total == 12 * count, "poll", "has another total", 0);
+    fill(4);
+    room = cells;
+    lent.records[0].code = 255;
+    claim(poll() == QUARTREE_REFUSED_PAIRING_CODE, "poll", "takes code 255", 11);
 }
 
 /* Each number has a text of its own, and numbers of no refusal have another. */
@@ -612,7 +692,9 @@ int main(void)
     for (unsigned number = 1; number <= REFUSALS; number++)
         claim((met >> number & 1) != 0, "*", "no call is refused", number);
     try_gaps();
+    try_words();
+    try_codes();
     try_texts();
-    printf("header: %u calls of %u entries, every refusal met\n", calls, (unsigned)ENTRIES);
+    printf("header: %u calls, every refusal met\n", calls);
     return 0;
 }

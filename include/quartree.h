@@ -16,10 +16,14 @@
 #include <stddef.h>
 #include <stdint.h>
 
-#define QUARTREE_VERSION "0.3.0"
+#define QUARTREE_VERSION "0.4.0"
 #define QUARTREE_VERSION_MAJOR 0
-#define QUARTREE_VERSION_MINOR 3
+#define QUARTREE_VERSION_MINOR 4
 #define QUARTREE_VERSION_PATCH 0
+
+/* From 0.3 to 0.4: quartree_gap, quartree_rebuild and quartree_rebuild_guided take one argument more, poll, right after
+   n; with QUARTREE_COUNTS they answer as before. What calls them has to be changed and built anew. Polls have the codes
+   4, 5 and 6, too, and are counted in sixths: their tables are lent with QUARTREE_POLL. */
 
 /* ---- Words ----------------------------------------------------------------------------------------------------------
 
@@ -42,23 +46,29 @@
 
    Table. n * n cells, row by row: cell (i,j) is at place n*i + j. Cell (i,j) of a tree's table is the number of
    unordered pairs p,q of other leaves with i,j paired against p,q. Its diagonal is 0 and its largest cell is at most
-   7,875. A tree has a table when its own table equals it in every cell. Different trees on the same leaves have
-   different tables ('one-table').
+   7,875. Different trees on the same leaves have different tables ('one-table'). A table is lent as one of counts or
+   as a poll's, which counts sixths; the caller says which. A tree has a table of counts when its own table equals it in
+   every cell, and a poll's table when six times its own table does.
 
    Merges. P(k) is k(k-1)/2. Merging starts with n subtrees of one leaf; each leaf i has m(i) = 0. Two different
    subtrees A and B of a and b leaves are eligible when for every i in A and j in B, cell (i,j) is
-   P(n-a-b) + m(i) + m(j). Merging them adds P(b) to m of A's leaves and P(a) to m of B's. After n-1 merges one subtree
-   holds all leaves; the last merge joins two subtrees by an edge and makes no node.
+   P(n-a-b) + m(i) + m(j), in a poll's table six times that. Merging them adds P(b) to m of A's leaves and P(a) to m of
+   B's. After n-1 merges one subtree holds all leaves; the last merge joins two subtrees by an edge and makes no node.
 
    Poll. One record a quartet: four leaves a < b < c < d and a pairing code. Codes 0, 1 and 2 are the pairings of
-   a, b, c, d; 3 is unresolved. A poll of n leaves, n from 4 to 32, has a record for every quartet, in lexicographic
-   order of the four leaves.
+   a, b, c, d. The others are ties: 3 allows all three pairings, 4 allows 0 and 1, 5 allows 0 and 2, and 6 allows 1 and
+   2. A poll of n leaves, n from 4 to 32, has a record for every quartet, in lexicographic order of the four leaves.
+
+   A poll's table. Each record has six sixths. Codes 0, 1 and 2 give 6 to their pairing; 3 gives 2 to each pairing; 4, 5
+   and 6 give 3 to each of their two. What a pairing is given is added to the cells of its two pairs and to their mirror
+   cells. So the cells above the diagonal total 12 times the number of records ('poll-total'). The poll of a tree's own
+   pairings has six times the tree's table ('own-poll'), and is rebuilt as that tree ('own-poll-rebuilt').
 
    Sheet. A byte file: names, cells, trailer. A name is a length byte 1 to 40, then that many letters, digits, full
    stops or hyphens (ASCII); the names are those of leaves 0, 1, 2 and so on, no two equal. The cells are those above
-   the diagonal, row by row, 16 bits each, low byte first. The trailer is the last 8 bytes: the leaf count (16 bits),
-   the offset of the first cell (32 bits), both low byte first, then the bytes 51 54 hexadecimal. Names fill everything
-   before that offset, cells everything from it to the trailer.
+   the diagonal of a table of counts, row by row, 16 bits each, low byte first. The trailer is the last 8 bytes: the
+   leaf count (16 bits), the offset of the first cell (32 bits), both low byte first, then the bytes 51 54 hexadecimal.
+   Names fill everything before that offset, cells everything from it to the trailer.
 
    Text. A tree as other programs write it (Newick), as in (a,b,(c,(d,e)));. A drawing is a name or a bracket. A name
    has one byte or more of those that a sheet's names have. A bracket holds one drawing or more, its parts, with commas
@@ -114,7 +124,7 @@
    0. */
 enum quartree_refusal {
     QUARTREE_ACCEPTED = 0,
-    QUARTREE_REFUSED_LEAF_COUNT = 1,    /* leaf count outside 3..128 (polls 4..32) */
+    QUARTREE_REFUSED_LEAF_COUNT = 1,    /* leaf count outside 3..128 (polls and their tables 4..32) */
     QUARTREE_REFUSED_INPUT_LENGTH = 2,  /* an input not exactly as long as the leaf count needs */
     QUARTREE_REFUSED_OUTPUT_ROOM = 3,   /* output shorter than the result */
     QUARTREE_REFUSED_DIAGONAL = 4,      /* diagonal cell not 0; the first such leaf */
@@ -126,7 +136,7 @@ enum quartree_refusal {
     QUARTREE_REFUSED_QUESTION = 9,      /* question names a leaf not below n, or one leaf twice; the first position
                                            where it does */
     QUARTREE_REFUSED_RECORD = 10,       /* record's leaves are not those due there; the record */
-    QUARTREE_REFUSED_PAIRING_CODE = 11, /* pairing code above 3; the record */
+    QUARTREE_REFUSED_PAIRING_CODE = 11, /* pairing code above 6; the record */
     QUARTREE_REFUSED_PROPOSAL = 12,     /* proposal names a leaf not below n, one subtree twice, or an ineligible pair;
                                            the first such step */
     QUARTREE_REFUSED_SHEET_ENDS = 13,   /* sheet under 8 or over 21,512 bytes, or not ending 51 54 */
@@ -147,7 +157,7 @@ static inline const char *quartree_refusal_text(unsigned number)
     case QUARTREE_ACCEPTED:
         return "accepted";
     case QUARTREE_REFUSED_LEAF_COUNT:
-        return "the leaf count is outside 3 to 128 (polls: 4 to 32)";
+        return "the leaf count is outside 3 to 128 (polls and their tables: 4 to 32)";
     case QUARTREE_REFUSED_INPUT_LENGTH:
         return "an input is not exactly as long as the leaf count needs";
     case QUARTREE_REFUSED_OUTPUT_ROOM:
@@ -167,7 +177,7 @@ static inline const char *quartree_refusal_text(unsigned number)
     case QUARTREE_REFUSED_RECORD:
         return "the leaves of a record are not those due there";
     case QUARTREE_REFUSED_PAIRING_CODE:
-        return "a pairing code is above 3";
+        return "a pairing code is above 6";
     case QUARTREE_REFUSED_PROPOSAL:
         return "a proposal names a leaf not below n, one subtree twice, or an ineligible pair";
     case QUARTREE_REFUSED_SHEET_ENDS:
@@ -247,7 +257,11 @@ uint64_t quartree_pairing(size_t n, const uint16_t *listing, size_t len, const u
 
 /* ---- Tables ---------------------------------------------------------------------------------------------------------
 
-   The length of a lent table, cells, has to be QUARTREE_TABLE_CELLS(n). A cell may have any value. */
+   The length of a lent table, cells, has to be QUARTREE_TABLE_CELLS(n). A cell may have any value. The caller says by
+   poll what the table is: 0 for one of counts; any other number for a poll's, and then n is from 4 to 32. */
+
+#define QUARTREE_COUNTS 0 /* for poll */
+#define QUARTREE_POLL 1
 
 /* Writes the table of a listing's tree.
    Refused, in this order: 1, 2, 3, 7, 8.
@@ -257,9 +271,10 @@ uint64_t quartree_table(size_t n, const uint16_t *listing, size_t len, uint32_t 
 
 /* Measures the gap between a table and a listing's tree.
    Refused, in this order: 1, 2 (either input), 3, 7, 8, 4, 5.
-   Accepted: the first QUARTREE_TABLE_CELLS(n) numbers of out are, cell by cell, the table's cell less the tree's cell:
-   from -7,875 to 4,294,967,295, and 0 on the diagonal. All are 0 exactly when the tree has the table. */
-uint64_t quartree_gap(size_t n, const uint32_t *table, size_t cells, const uint16_t *listing, size_t len,
+   Accepted: the first QUARTREE_TABLE_CELLS(n) numbers of out are, cell by cell, the table's cell less the tree's cell,
+   or, of a poll's table, less six times the tree's cell: from -7,875, or -2,610, to 4,294,967,295, and 0 on the
+   diagonal. All are 0 exactly when the tree has the table. */
+uint64_t quartree_gap(size_t n, uint32_t poll, const uint32_t *table, size_t cells, const uint16_t *listing, size_t len,
                       int64_t *out, size_t room);
 
 /* Rebuilds the tree of a table.
@@ -268,7 +283,7 @@ uint64_t quartree_gap(size_t n, const uint32_t *table, size_t cells, const uint1
    subtree.
    Accepted: the first QUARTREE_LISTING_NUMBERS(n) numbers of out are the standard listing of the only tree that has
    the table. Every list of eligible merges, taken until no pair is eligible, ends in this one tree. */
-uint64_t quartree_rebuild(size_t n, const uint32_t *table, size_t cells, uint16_t *out, size_t room);
+uint64_t quartree_rebuild(size_t n, uint32_t poll, const uint32_t *table, size_t cells, uint16_t *out, size_t room);
 
 /* Rebuilds the tree of a table by proposed merges. The length of the list, len, has to be QUARTREE_MERGE_NUMBERS(n).
    Step k names two leaves, at places 2k and 2k+1, and proposes to merge the two subtrees that hold them.
@@ -276,21 +291,23 @@ uint64_t quartree_rebuild(size_t n, const uint32_t *table, size_t cells, uint16_
    step names no pair that is eligible at its turn. Where quartree_rebuild says 6, every list is refused by 12.
    Accepted: the first QUARTREE_LISTING_NUMBERS(n) numbers of out are the standard listing of the only tree that has
    the table, the same that quartree_rebuild writes. */
-uint64_t quartree_rebuild_guided(size_t n, const uint32_t *table, size_t cells, const uint16_t *merges, size_t len,
-                                 uint16_t *out, size_t room);
+uint64_t quartree_rebuild_guided(size_t n, uint32_t poll, const uint32_t *table, size_t cells, const uint16_t *merges,
+                                 size_t len, uint16_t *out, size_t room);
 
 /* ---- Polls ------------------------------------------------------------------------------------------------------- */
 
 /* A record of a poll: five bytes. */
 struct quartree_record {
     uint8_t a, b, c, d; /* the leaves, a < b < c < d */
-    uint8_t code;       /* 0: a,b against c,d; 1: a,c against b,d; 2: a,d against b,c; 3: unresolved */
+    uint8_t code;       /* 0: a,b against c,d; 1: a,c against b,d; 2: a,d against b,c; 3: any of these; 4: 0 or 1;
+                           5: 0 or 2; 6: 1 or 2 */
 };
 
 /* Adds up a poll. n is from 4 to 32, and the number of records, count, has to be QUARTREE_POLL_RECORDS(n).
    Refused, in this order: 1, 2, 3, 10, 11.
-   Accepted: the first QUARTREE_TABLE_CELLS(n) cells of out are the poll's table. Cell (i,j) is the number of resolved
-   records that pair i with j, and the diagonal is 0. */
+   Accepted: the first QUARTREE_TABLE_CELLS(n) cells of out are the poll's table. Cell (i,j) is what the records, all
+   together, give to the pairings that put i beside j, in sixths; the diagonal is 0. Such a table is never refused by 4
+   or 5. The calls above take it with QUARTREE_POLL. */
 uint64_t quartree_poll(size_t n, const struct quartree_record *records, size_t count, uint32_t *out, size_t room);
 
 /* ---- Sheets ---------------------------------------------------------------------------------------------------------

@@ -9,11 +9,11 @@ uint64_t real_standardise(size_t n, const uint16_t *listing, size_t len, uint16_
 uint64_t real_splits(size_t n, const uint16_t *listing, size_t len, uint8_t *out, size_t room);
 uint64_t real_pairing(size_t n, const uint16_t *listing, size_t len, const uint16_t *question, size_t question_len);
 uint64_t real_table(size_t n, const uint16_t *listing, size_t len, uint32_t *out, size_t room);
-uint64_t real_gap(size_t n, const uint32_t *table, size_t cells, const uint16_t *listing, size_t len, int64_t *out,
-                  size_t room);
-uint64_t real_rebuild(size_t n, const uint32_t *table, size_t cells, uint16_t *out, size_t room);
-uint64_t real_rebuild_guided(size_t n, const uint32_t *table, size_t cells, const uint16_t *merges, size_t len,
-                             uint16_t *out, size_t room);
+uint64_t real_gap(size_t n, uint32_t poll, const uint32_t *table, size_t cells, const uint16_t *listing, size_t len,
+                  int64_t *out, size_t room);
+uint64_t real_rebuild(size_t n, uint32_t poll, const uint32_t *table, size_t cells, uint16_t *out, size_t room);
+uint64_t real_rebuild_guided(size_t n, uint32_t poll, const uint32_t *table, size_t cells, const uint16_t *merges,
+                             size_t len, uint16_t *out, size_t room);
 uint64_t real_poll(size_t n, const struct quartree_record *records, size_t count, uint32_t *out, size_t room);
 uint64_t real_check_sheet(const uint8_t *sheet, size_t len);
 uint64_t real_sheet_table(const uint8_t *sheet, size_t len, uint32_t *out, size_t room);
@@ -111,10 +111,10 @@ uint64_t quartree_table(size_t n, const uint16_t *listing, size_t len, uint32_t 
 }
 
 #elif FAULT == 11 /* gap: in 32 bits */
-uint64_t quartree_gap(size_t n, const uint32_t *table, size_t cells, const uint16_t *listing, size_t len, int64_t *out,
-                      size_t room)
+uint64_t quartree_gap(size_t n, uint32_t poll, const uint32_t *table, size_t cells, const uint16_t *listing, size_t len,
+                      int64_t *out, size_t room)
 {
-    uint64_t reply = real_gap(n, table, cells, listing, len, out, room);
+    uint64_t reply = real_gap(n, poll, table, cells, listing, len, out, room);
     if (NUMBER(reply) == QUARTREE_ACCEPTED)
         for (size_t cell = 0; cell < cells; cell++)
             out[cell] = (int32_t)out[cell];
@@ -122,45 +122,45 @@ uint64_t quartree_gap(size_t n, const uint32_t *table, size_t cells, const uint1
 }
 
 #elif FAULT == 12 /* gap: the pair of unequal halves told as j, i */
-uint64_t quartree_gap(size_t n, const uint32_t *table, size_t cells, const uint16_t *listing, size_t len, int64_t *out,
-                      size_t room)
+uint64_t quartree_gap(size_t n, uint32_t poll, const uint32_t *table, size_t cells, const uint16_t *listing, size_t len,
+                      int64_t *out, size_t room)
 {
-    uint64_t reply = real_gap(n, table, cells, listing, len, out, room);
+    uint64_t reply = real_gap(n, poll, table, cells, listing, len, out, room);
     uint64_t turned = QUARTREE_FIGURE_Y(reply) << 16 | QUARTREE_FIGURE_X(reply) << 8 | NUMBER(reply);
     return NUMBER(reply) == QUARTREE_REFUSED_HALVES ? turned : reply;
 }
 
 #elif FAULT == 13 /* rebuild: how many cells are lent, told at 6 */
-uint64_t quartree_rebuild(size_t n, const uint32_t *table, size_t cells, uint16_t *out, size_t room)
+uint64_t quartree_rebuild(size_t n, uint32_t poll, const uint32_t *table, size_t cells, uint16_t *out, size_t room)
 {
-    uint64_t reply = real_rebuild(n, table, cells, out, room);
+    uint64_t reply = real_rebuild(n, poll, table, cells, out, room);
     return NUMBER(reply) == QUARTREE_REFUSED_NO_TREE ? reply | (uint64_t)cells << 8 : reply;
 }
 
 #elif FAULT == 14 /* rebuild: no listing where there is room for more */
-uint64_t quartree_rebuild(size_t n, const uint32_t *table, size_t cells, uint16_t *out, size_t room)
+uint64_t quartree_rebuild(size_t n, uint32_t poll, const uint32_t *table, size_t cells, uint16_t *out, size_t room)
 {
     uint16_t spare[QUARTREE_LISTING_NUMBERS(QUARTREE_MOST_LEAVES)];
     size_t most = sizeof spare / sizeof spare[0];
     return n <= QUARTREE_MOST_LEAVES && n >= 3 && room > QUARTREE_LISTING_NUMBERS(n)
-               ? real_rebuild(n, table, cells, spare, room < most ? room : most)
-               : real_rebuild(n, table, cells, out, room);
+               ? real_rebuild(n, poll, table, cells, spare, room < most ? room : most)
+               : real_rebuild(n, poll, table, cells, out, room);
 }
 
 #elif FAULT == 15 /* guided: refused always at step 0 */
-uint64_t quartree_rebuild_guided(size_t n, const uint32_t *table, size_t cells, const uint16_t *merges, size_t len,
-                                 uint16_t *out, size_t room)
+uint64_t quartree_rebuild_guided(size_t n, uint32_t poll, const uint32_t *table, size_t cells, const uint16_t *merges,
+                                 size_t len, uint16_t *out, size_t room)
 {
-    uint64_t reply = real_rebuild_guided(n, table, cells, merges, len, out, room);
+    uint64_t reply = real_rebuild_guided(n, poll, table, cells, merges, len, out, room);
     return NUMBER(reply) == QUARTREE_REFUSED_PROPOSAL ? QUARTREE_REFUSED_PROPOSAL : reply;
 }
 
 #elif FAULT == 16 /* guided: our own merges in the place of the proposed */
-uint64_t quartree_rebuild_guided(size_t n, const uint32_t *table, size_t cells, const uint16_t *merges, size_t len,
-                                 uint16_t *out, size_t room)
+uint64_t quartree_rebuild_guided(size_t n, uint32_t poll, const uint32_t *table, size_t cells, const uint16_t *merges,
+                                 size_t len, uint16_t *out, size_t room)
 {
-    uint64_t reply = real_rebuild_guided(n, table, cells, merges, len, out, room);
-    return NUMBER(reply) == QUARTREE_REFUSED_PROPOSAL ? real_rebuild(n, table, cells, out, room) : reply;
+    uint64_t reply = real_rebuild_guided(n, poll, table, cells, merges, len, out, room);
+    return NUMBER(reply) == QUARTREE_REFUSED_PROPOSAL ? real_rebuild(n, poll, table, cells, out, room) : reply;
 }
 
 #elif FAULT == 17 /* poll: the record in 15 bits */
@@ -231,9 +231,9 @@ uint64_t quartree_check(size_t n, const uint16_t *listing, size_t len)
 }
 
 #elif FAULT == 26 /* rebuild: the room in 16 bits */
-uint64_t quartree_rebuild(size_t n, const uint32_t *table, size_t cells, uint16_t *out, size_t room)
+uint64_t quartree_rebuild(size_t n, uint32_t poll, const uint32_t *table, size_t cells, uint16_t *out, size_t room)
 {
-    return real_rebuild(n, table, cells, out, (uint16_t)room);
+    return real_rebuild(n, poll, table, cells, out, (uint16_t)room);
 }
 
 #elif FAULT == 27 /* check_sheet: the leaf count not told */
@@ -379,5 +379,133 @@ uint64_t quartree_import(const uint8_t *sheet, size_t sheet_len, const uint8_t *
         out[2 * n - 6] = last;
     }
     return reply;
+}
+
+#elif FAULT == 44 /* gap: the word for the table ignored */
+uint64_t quartree_gap(size_t n, uint32_t poll, const uint32_t *table, size_t cells, const uint16_t *listing, size_t len,
+                      int64_t *out, size_t room)
+{
+    (void)poll;
+    return real_gap(n, QUARTREE_COUNTS, table, cells, listing, len, out, room);
+}
+
+#elif FAULT == 45 /* gap: the word for the table turned round */
+uint64_t quartree_gap(size_t n, uint32_t poll, const uint32_t *table, size_t cells, const uint16_t *listing, size_t len,
+                      int64_t *out, size_t room)
+{
+    return real_gap(n, poll == 0, table, cells, listing, len, out, room);
+}
+
+#elif FAULT == 46 /* gap: a poll's for 1 only */
+uint64_t quartree_gap(size_t n, uint32_t poll, const uint32_t *table, size_t cells, const uint16_t *listing, size_t len,
+                      int64_t *out, size_t room)
+{
+    return real_gap(n, poll == QUARTREE_POLL, table, cells, listing, len, out, room);
+}
+
+#elif FAULT == 47 /* gap: the word for the table in 16 bits */
+uint64_t quartree_gap(size_t n, uint32_t poll, const uint32_t *table, size_t cells, const uint16_t *listing, size_t len,
+                      int64_t *out, size_t room)
+{
+    return real_gap(n, (uint16_t)poll, table, cells, listing, len, out, room);
+}
+
+#elif FAULT == 48 /* rebuild: the word for the table ignored */
+uint64_t quartree_rebuild(size_t n, uint32_t poll, const uint32_t *table, size_t cells, uint16_t *out, size_t room)
+{
+    (void)poll;
+    return real_rebuild(n, QUARTREE_COUNTS, table, cells, out, room);
+}
+
+#elif FAULT == 49 /* rebuild: every table taken for a poll's */
+uint64_t quartree_rebuild(size_t n, uint32_t poll, const uint32_t *table, size_t cells, uint16_t *out, size_t room)
+{
+    (void)poll;
+    return real_rebuild(n, QUARTREE_POLL, table, cells, out, room);
+}
+
+#elif FAULT == 50 /* rebuild: the word for the table in 8 bits */
+uint64_t quartree_rebuild(size_t n, uint32_t poll, const uint32_t *table, size_t cells, uint16_t *out, size_t room)
+{
+    return real_rebuild(n, (uint8_t)poll, table, cells, out, room);
+}
+
+#elif FAULT == 51 /* rebuild: a poll's for 1 only */
+uint64_t quartree_rebuild(size_t n, uint32_t poll, const uint32_t *table, size_t cells, uint16_t *out, size_t room)
+{
+    return real_rebuild(n, poll == QUARTREE_POLL, table, cells, out, room);
+}
+
+#elif FAULT == 52 /* rebuild: the word for the table as an int above 0 */
+uint64_t quartree_rebuild(size_t n, uint32_t poll, const uint32_t *table, size_t cells, uint16_t *out, size_t room)
+{
+    return real_rebuild(n, (int32_t)poll > 0, table, cells, out, room);
+}
+
+#elif FAULT == 53 /* guided: the word for the table ignored */
+uint64_t quartree_rebuild_guided(size_t n, uint32_t poll, const uint32_t *table, size_t cells, const uint16_t *merges,
+                                 size_t len, uint16_t *out, size_t room)
+{
+    (void)poll;
+    return real_rebuild_guided(n, QUARTREE_COUNTS, table, cells, merges, len, out, room);
+}
+
+#elif FAULT == 54 /* guided: the word for the table turned round */
+uint64_t quartree_rebuild_guided(size_t n, uint32_t poll, const uint32_t *table, size_t cells, const uint16_t *merges,
+                                 size_t len, uint16_t *out, size_t room)
+{
+    return real_rebuild_guided(n, poll == 0, table, cells, merges, len, out, room);
+}
+
+#elif FAULT == 55 /* guided: a poll's for odd numbers only */
+uint64_t quartree_rebuild_guided(size_t n, uint32_t poll, const uint32_t *table, size_t cells, const uint16_t *merges,
+                                 size_t len, uint16_t *out, size_t room)
+{
+    return real_rebuild_guided(n, poll & 1, table, cells, merges, len, out, room);
+}
+
+#elif FAULT == 56 /* rebuild: the limits of counts for a poll's table */
+uint64_t quartree_rebuild(size_t n, uint32_t poll, const uint32_t *table, size_t cells, uint16_t *out, size_t room)
+{
+    uint64_t reply = real_rebuild(n, poll, table, cells, out, room);
+    return poll != 0 && (n < 4 || n > 32) ? real_rebuild(n, QUARTREE_COUNTS, table, cells, out, room) : reply;
+}
+
+#elif FAULT == 57 /* guided: the length judged before the limits of a poll's table */
+uint64_t quartree_rebuild_guided(size_t n, uint32_t poll, const uint32_t *table, size_t cells, const uint16_t *merges,
+                                 size_t len, uint16_t *out, size_t room)
+{
+    uint64_t counts = real_rebuild_guided(n, QUARTREE_COUNTS, table, cells, merges, len, out, 0);
+    return NUMBER(counts) == QUARTREE_REFUSED_INPUT_LENGTH
+               ? counts
+               : real_rebuild_guided(n, poll, table, cells, merges, len, out, room);
+}
+
+#elif FAULT == 58 /* gap: of a poll's table from the tree's cells once */
+uint64_t quartree_gap(size_t n, uint32_t poll, const uint32_t *table, size_t cells, const uint16_t *listing, size_t len,
+                      int64_t *out, size_t room)
+{
+    uint64_t reply = real_gap(n, poll, table, cells, listing, len, out, room);
+    return NUMBER(reply) == QUARTREE_ACCEPTED ? real_gap(n, QUARTREE_COUNTS, table, cells, listing, len, out, room)
+                                              : reply;
+}
+
+#elif FAULT == 59 /* poll: in ones */
+uint64_t quartree_poll(size_t n, const struct quartree_record *records, size_t count, uint32_t *out, size_t room)
+{
+    uint64_t reply = real_poll(n, records, count, out, room);
+    for (size_t cell = 0; NUMBER(reply) == QUARTREE_ACCEPTED && cell < QUARTREE_TABLE_CELLS(n); cell++)
+        out[cell] /= 6;
+    return reply;
+}
+
+#elif FAULT == 60 /* poll: no code above 3 */
+uint64_t quartree_poll(size_t n, const struct quartree_record *records, size_t count, uint32_t *out, size_t room)
+{
+    uint64_t reply = real_poll(n, records, count, out, 0);
+    for (size_t record = 0; NUMBER(reply) == QUARTREE_REFUSED_OUTPUT_ROOM && record < count; record++)
+        if (records[record].code > 3)
+            return QUARTREE_REFUSED_PAIRING_CODE | (uint64_t)record << 8;
+    return real_poll(n, records, count, out, room);
 }
 #endif

@@ -8,8 +8,9 @@ use crate::every::Every;
 use crate::part::{self, Cell, Lent};
 use crate::poll::{self, Record};
 use crate::refuse::{reply, Answer, Refusal};
+use crate::table::{self, COUNTS};
 use crate::tree::{self, Tree};
-use crate::{merge, newick, sheet, table};
+use crate::{merge, newick, sheet};
 
 /// The operations.
 #[derive(Clone, Copy, Debug, PartialEq, Eq)]
@@ -98,9 +99,9 @@ pub enum Case {
     Splits { n: usize, listing: Vec<u16>, room: usize },
     Pairing { n: usize, listing: Vec<u16>, question: Vec<u16> },
     Table { n: usize, listing: Vec<u16>, room: usize },
-    Gap { n: usize, table: Vec<u32>, listing: Vec<u16>, room: usize },
-    Rebuild { n: usize, table: Vec<u32>, room: usize },
-    Guided { n: usize, table: Vec<u32>, merges: Vec<u16>, room: usize },
+    Gap { n: usize, poll: u32, table: Vec<u32>, listing: Vec<u16>, room: usize },
+    Rebuild { n: usize, poll: u32, table: Vec<u32>, room: usize },
+    Guided { n: usize, poll: u32, table: Vec<u32>, merges: Vec<u16>, room: usize },
     Poll { n: usize, records: Vec<Record>, room: usize },
     CheckSheet { sheet: Vec<u8> },
     SheetTable { sheet: Vec<u8>, room: usize },
@@ -228,40 +229,41 @@ impl Case {
                 listing.unchanged()?;
                 settle_output(got, no_number(due), &out)
             }
-            Case::Gap { n, table, listing, room } => {
-                let due = table::gap(*n, table, listing, *room);
+            Case::Gap { n, poll, table, listing, room } => {
+                let due = table::gap(*n, *poll, table, listing, *room);
                 let mut table = Lent::input("table", table, chance);
                 let mut listing = Lent::input("listing", listing, chance);
                 let mut out = Lent::output("gaps", *room, chance);
-                let got = part::gap(*n, &mut table, &mut listing, &mut out);
+                let got = part::gap(*n, *poll, &mut table, &mut listing, &mut out);
                 table.unchanged()?;
                 listing.unchanged()?;
                 settle_output(got, no_number(due), &out)
             }
-            Case::Rebuild { n, table, room } => {
-                let due = merge::rebuild(*n, table, *room, chance);
-                look_at_rebuilt(*n, table, &due, every, chance)?;
+            Case::Rebuild { n, poll, table, room } => {
+                let due = merge::rebuild(*n, *poll, table, *room, chance);
+                look_at_rebuilt(*n, *poll, table, &due, every, chance)?;
                 let mut table = Lent::input("table", table, chance);
                 let mut out = Lent::output("standard listing", *room, chance);
-                let got = part::rebuild(*n, &mut table, &mut out);
+                let got = part::rebuild(*n, *poll, &mut table, &mut out);
                 table.unchanged()?;
                 settle_output(got, no_number(due), &out)
             }
-            Case::Guided { n, table, merges, room } => {
-                let due = merge::rebuild_guided(*n, table, merges, *room);
+            Case::Guided { n, poll, table, merges, room } => {
+                let due = merge::rebuild_guided(*n, *poll, table, merges, *room);
                 if due.is_ok() {
-                    look_at_rebuilt(*n, table, &due, every, chance)?;
+                    look_at_rebuilt(*n, *poll, table, &due, every, chance)?;
                 }
                 let mut table = Lent::input("table", table, chance);
                 let mut merges = Lent::input("merges", merges, chance);
                 let mut out = Lent::output("standard listing", *room, chance);
-                let got = part::rebuild_guided(*n, &mut table, &mut merges, &mut out);
+                let got = part::rebuild_guided(*n, *poll, &mut table, &mut merges, &mut out);
                 table.unchanged()?;
                 merges.unchanged()?;
                 settle_output(got, no_number(due), &out)
             }
             Case::Poll { n, records, room } => {
                 let due = poll::poll(*n, records, *room);
+                look_at_poll(*n, records, &due, chance)?;
                 let mut records = Lent::input("records", records, chance);
                 let mut out = Lent::output("table", *room, chance);
                 let got = part::poll(*n, &mut records, &mut out);
@@ -351,10 +353,21 @@ fn look_at_table(n: usize, listing: &[u16], due: &Answer<Vec<u32>>, chance: &mut
     agreed(table::cell_by_pairs(&tree, i, j) == cells[i * n + j], "one cell by pairs")
 }
 
+/// The cells above the diagonal total 12 times the records, none is above six times the pairs of other leaves, and one
+/// cell is what each record adds to it.
+fn look_at_poll(n: usize, records: &[Record], due: &Answer<Vec<u32>>, chance: &mut Chance) -> Result<(), String> {
+    let Ok(cells) = due else { return Ok(()) };
+    agreed(cells.iter().sum::<u32>() as usize == 2 * 12 * records.len(), "sum of a poll")?;
+    agreed(cells.iter().all(|&cell| u64::from(cell) <= 6 * table::pairs_of(n - 2)), "largest cell of a poll")?;
+    let (i, j) = (chance.below(n), chance.below(n));
+    agreed(i == j || poll::cell_by_records(records, i, j) == cells[i * n + j], "one cell by records")
+}
+
 /// Demands 2 and 3 for one table. A rebuilt tree has the table; merges in another order end alike; and up to seven
 /// leaves the answer is that of a search through every tree.
 fn look_at_rebuilt(
     n: usize,
+    poll: u32,
     table: &[u32],
     due: &Answer<Vec<u16>>,
     every: &Every,
@@ -366,11 +379,12 @@ fn look_at_rebuilt(
         Err(_) => return Ok(()),
     };
     if let Some(listing) = found {
-        agreed(table::of_tree(&Tree::from_listing(n, listing)) == table, "rebuilt tree without the table")?;
+        let own = table::of_tree(&Tree::from_listing(n, listing));
+        agreed(table::scaled(&own, table::times(poll)) == table, "rebuilt tree without the table")?;
     }
-    let (_, other) = merge::finished_list(n, table, chance);
+    let (_, other) = merge::finished_list(n, poll, table, chance);
     agreed(other.map(|tree| tree.standard_listing()).as_ref() == found, "merges in another order")?;
-    agreed(n > Every::LEAVES || every.listing_with(table) == found, "search through every tree")
+    agreed(n > Every::LEAVES || every.listing_with(poll, table) == found, "search through every tree")
 }
 
 fn look_at_rebuilt_sheet(
@@ -381,7 +395,7 @@ fn look_at_rebuilt_sheet(
 ) -> Result<(), String> {
     let Ok((n, table)) = sheet::sheet_table(sheet, usize::MAX) else { return Ok(()) };
     let wide = |bytes: &Vec<u8>| bytes.chunks(2).map(|low| u16::from_le_bytes([low[0], low[1]])).collect();
-    look_at_rebuilt(n, &table, &due.as_ref().map(wide).map_err(|&refusal| refusal), every, chance)
+    look_at_rebuilt(n, COUNTS, &table, &due.as_ref().map(wide).map_err(|&refusal| refusal), every, chance)
 }
 
 /// An export is as long as the paper's words make it, and imported it is the exported tree's standard listing.

@@ -7,8 +7,8 @@ use crate::cases::{Case, Kind};
 use crate::chance::Chance;
 use crate::merge::finished_list;
 use crate::part::Cell;
-use crate::poll::{records_of, Record};
-use crate::table::{of_tree, pairs_of, put, quartets};
+use crate::poll::{poll, records_of, Record, LAST_CODE};
+use crate::table::{of_tree, pairs_of, put, quartets, scaled, times, COUNTS, POLL};
 use crate::texts;
 use crate::tree::{members, single, LeafSet, Tree};
 use std::collections::HashMap;
@@ -41,20 +41,18 @@ pub fn any_case(kind: Kind, chance: &mut Chance) -> Case {
             Case::Table { n, listing, room: lent_room(table_length(n, chance), chance) }
         }
         Kind::Gap => {
-            let n = lent_count(chance);
-            let (table, listing) = (lent_table(n, chance), lent_listing(n, chance));
-            Case::Gap { n, table, listing, room: lent_room(table_length(n, chance), chance) }
+            let (n, poll, table) = lent_table(chance);
+            let listing = lent_listing(n, chance);
+            Case::Gap { n, poll, table, listing, room: lent_room(table_length(n, chance), chance) }
         }
         Kind::Rebuild => {
-            let n = lent_count(chance);
-            let table = lent_table(n, chance);
-            Case::Rebuild { n, table, room: lent_room(listing_length(n, chance), chance) }
+            let (n, poll, table) = lent_table(chance);
+            Case::Rebuild { n, poll, table, room: lent_room(listing_length(n, chance), chance) }
         }
         Kind::Guided => {
-            let n = lent_count(chance);
-            let table = lent_table(n, chance);
-            let merges = lent_merges(n, &table, chance);
-            Case::Guided { n, table, merges, room: lent_room(listing_length(n, chance), chance) }
+            let (n, poll, table) = lent_table(chance);
+            let merges = lent_merges(n, poll, &table, chance);
+            Case::Guided { n, poll, table, merges, room: lent_room(listing_length(n, chance), chance) }
         }
         Kind::Poll => {
             let n = lent_poll_count(chance);
@@ -411,8 +409,47 @@ fn mix_in(cells: &mut [u32], n: usize, chance: &mut Chance) {
     }
 }
 
-fn lent_table(n: usize, chance: &mut Chance) -> Vec<u32> {
-    let mut cells = if is_good(n) { any_table(n, chance) } else { vec![0; table_length(n, chance)] };
+/// A table that is lent as a poll's: six times a tree's or one close to it, mostly; else that with a cell changed, a
+/// poll's with a tie or more, or one of counts.
+pub fn any_polled_table(n: usize, chance: &mut Chance) -> Vec<u32> {
+    let counts = any_table(n, chance);
+    let mut cells = scaled(&counts, times(POLL));
+    match chance.below(8) {
+        0 => change_cell(&mut cells, n, chance),
+        1 => return counts,
+        2 if (4..=10).contains(&n) => return table_of_poll(n, chance),
+        _ => {}
+    }
+    cells
+}
+
+/// The table of a poll of a tree's own pairings, of which some may have other codes.
+fn table_of_poll(n: usize, chance: &mut Chance) -> Vec<u32> {
+    let mut records = poll_of_tree(&any_tree(n, chance));
+    for _ in 0..chance.below(3) {
+        let place = chance.below(records.len());
+        records[place].code = chance.below(usize::from(LAST_CODE) + 1) as u8;
+    }
+    poll(n, &records, n * n).expect("nothing is wrong with the poll")
+}
+
+/// The caller's word for a table, every third time that it is a poll's.
+fn lent_word(chance: &mut Chance) -> u32 {
+    match chance.below(3) {
+        0 => chance.of(&[POLL, POLL, 2, 6, 256, 1 << 16, 1 << 31, u32::MAX]),
+        _ => COUNTS,
+    }
+}
+
+/// A table with its leaf count and the caller's word; now and then the word is wrong.
+fn lent_table(chance: &mut Chance) -> (usize, u32, Vec<u32>) {
+    let poll = lent_word(chance);
+    let n = if poll == COUNTS { lent_count(chance) } else { lent_poll_count(chance) };
+    let mut cells = match poll {
+        _ if !is_good(n) => vec![0; table_length(n, chance)],
+        COUNTS if chance.below(40) > 0 => any_table(n, chance),
+        _ => any_polled_table(n, chance),
+    };
     if is_good(n) && chance.one_in(8) {
         for _ in 0..chance.between(1, 2) {
             let leaf = chance.below(n);
@@ -428,12 +465,12 @@ fn lent_table(n: usize, chance: &mut Chance) -> Vec<u32> {
     if chance.one_in(12) {
         spoil_length(&mut cells, chance);
     }
-    cells
+    (n, poll, cells)
 }
 
 /// A finished list of eligible merges of the table, each subtree named by any of its leaves, filled up to n−1 steps.
-pub fn any_merges(n: usize, table: &[u32], chance: &mut Chance) -> Vec<u16> {
-    let (list, _) = finished_list(n, table, chance);
+pub fn any_merges(n: usize, poll: u32, table: &[u32], chance: &mut Chance) -> Vec<u16> {
+    let (list, _) = finished_list(n, poll, table, chance);
     let mut merges = Vec::new();
     for pair in list {
         let mut named = pair.map(|subtree| chance.of(&members(subtree).collect::<Vec<usize>>()) as u16);
@@ -444,9 +481,9 @@ pub fn any_merges(n: usize, table: &[u32], chance: &mut Chance) -> Vec<u16> {
     merges
 }
 
-fn lent_merges(n: usize, table: &[u32], chance: &mut Chance) -> Vec<u16> {
+fn lent_merges(n: usize, poll: u32, table: &[u32], chance: &mut Chance) -> Vec<u16> {
     let mut merges: Vec<u16> = match n {
-        3..=128 if table.len() == n * n => any_merges(n, table, chance),
+        3..=128 if table.len() == n * n => any_merges(n, poll, table, chance),
         _ => (0..listing_length(n, chance) + 2).map(|_| chance.below(131) as u16).collect(),
     };
     if is_good(n) && chance.one_in(3) {
@@ -489,7 +526,7 @@ fn lent_records(n: usize, chance: &mut Chance) -> Vec<Record> {
     let mut records: Vec<Record> = match n {
         4..=10 if chance.one_in(3) => poll_of_tree(&any_tree(n, chance)),
         4..=34 => {
-            let codes = chance.between(1, 4);
+            let codes = chance.between(1, usize::from(LAST_CODE) + 1);
             let record = |four: [usize; 4]| (four.map(|leaf| leaf as u8), chance.below(codes) as u8);
             quartets(n).map(record).map(|(leaves, code)| Record { leaves, code }).collect()
         }
@@ -516,10 +553,10 @@ fn spoil_record(records: &mut [Record], chance: &mut Chance) {
         2 => records[place].leaves.swap(leaf, 3 - leaf),
         3 => records[place].leaves[leaf] = u8::any(chance),
         4 => records[place].leaves[leaf] ^= 1 << chance.below(8),
-        5 => records[place].code = 4,
+        5 => records[place].code = LAST_CODE + 1,
         6 => records[place].code ^= chance.of(&[4, 8, 128]),
         7 => records[place] = Record::any(chance),
-        _ => records[place].code = chance.between(4, 255) as u8,
+        _ => records[place].code = chance.between(usize::from(LAST_CODE) + 1, 255) as u8,
     }
 }
 

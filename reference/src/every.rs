@@ -7,7 +7,7 @@
 use crate::chance::Chance;
 use crate::draw;
 use crate::merge::Merging;
-use crate::table;
+use crate::table::{self, COUNTS, POLL};
 use crate::tree::{LeafSet, Tree};
 use std::collections::{BTreeSet, HashMap, HashSet};
 
@@ -46,55 +46,70 @@ impl Every {
         Every { listings }
     }
 
-    /// The standard listing of the one tree that has the table, if there is one.
-    pub fn listing_with(&self, table: &[u32]) -> Option<&Vec<u16>> {
-        self.listings.get(table)
+    /// The standard listing of the one tree that has the table, by the caller's word for it, if there is one.
+    pub fn listing_with(&self, poll: u32, table: &[u32]) -> Option<&Vec<u16>> {
+        let times = table::times(poll);
+        let count = |&cell: &u32| (cell % times == 0).then_some(cell / times);
+        self.listings.get(&table.iter().map(count).collect::<Option<Vec<u32>>>()?)
     }
 
     /// Demand 3 for one table of at most seven leaves, over all its finished lists.
-    fn try_table(&self, n: usize, table: &[u32], tried: &mut Tried) -> Result<(), String> {
+    fn try_table(&self, n: usize, poll: u32, table: &[u32], tried: &mut Tried) -> Result<(), String> {
         let mut ends = Ends { found: BTreeSet::new(), states: HashSet::new() };
-        ends.follow(Merging::start(n, table));
+        ends.follow(Merging::start(n, poll, table));
         tried.tables += 1;
         tried.states += ends.states.len();
-        let due = BTreeSet::from([self.listing_with(table).cloned()]);
+        let due = BTreeSet::from([self.listing_with(poll, table).cloned()]);
         if ends.found == due {
             return Ok(());
         }
-        Err(format!("demand 3 fails: n = {n}, table {table:?}, ends {:?}, due {due:?}", ends.found))
+        Err(format!("demand 3 fails: n = {n}, poll {poll}, table {table:?}, ends {:?}, due {due:?}", ends.found))
     }
 
     /// Demand 3 for the tables of all trees of 3 to 6 leaves and these with any one cell changed, for all tables of 3
     /// leaves with cells up to 3, of 4 leaves with cells up to 2, of 5 leaves with cells 0, 1 or 3, and for so many
-    /// more of 5 to 7 leaves drawn by chance.
+    /// more of 5 to 7 leaves drawn by chance. Of polls' tables: six times those of all trees of 4 and 5 leaves and these
+    /// with any one cell changed, all of 4 leaves with cells 0, 3, 6 or 7, and as many more of 5 and 6 leaves by chance.
     pub fn try_demand_3(&self, drawn: usize) -> Result<Tried, String> {
         let mut tried = Tried::default();
         for n in 3..=6 {
-            for tree in Tree::every(n) {
-                let own = table::of_tree(&tree);
-                self.try_table(n, &own, &mut tried)?;
-                for (i, j) in above_diagonal(n) {
-                    for value in 0..=table::pairs_of(n - 2) as u32 + 1 {
-                        let mut changed = own.clone();
-                        table::put(&mut changed, n, (i, j), value);
-                        self.try_table(n, &changed, &mut tried)?;
-                    }
-                }
-            }
+            self.try_near(n, COUNTS, &mut tried)?;
         }
-        self.try_all_with(3, &[0, 1, 2, 3], &mut tried)?;
-        self.try_all_with(4, &[0, 1, 2], &mut tried)?;
-        self.try_all_with(5, &[0, 1, 3], &mut tried)?;
+        self.try_all_with(3, COUNTS, &[0, 1, 2, 3], &mut tried)?;
+        self.try_all_with(4, COUNTS, &[0, 1, 2], &mut tried)?;
+        self.try_all_with(5, COUNTS, &[0, 1, 3], &mut tried)?;
+        self.try_near(4, POLL, &mut tried)?;
+        self.try_near(5, POLL, &mut tried)?;
+        self.try_all_with(4, POLL, &[0, 3, 6, 7], &mut tried)?;
         let mut chance = Chance::new(3, 3);
         for _ in 0..drawn {
             let n = chance.between(5, Every::LEAVES);
-            self.try_table(n, &draw::any_table(n, &mut chance), &mut tried)?;
+            self.try_table(n, COUNTS, &draw::any_table(n, &mut chance), &mut tried)?;
+            let n = chance.between(5, 6);
+            self.try_table(n, POLL, &draw::any_polled_table(n, &mut chance), &mut tried)?;
         }
         Ok(tried)
     }
 
+    /// What every tree of so many leaves has for its table, and these with any one cell changed.
+    fn try_near(&self, n: usize, poll: u32, tried: &mut Tried) -> Result<(), String> {
+        let times = table::times(poll);
+        for tree in Tree::every(n) {
+            let own = table::scaled(&table::of_tree(&tree), times);
+            self.try_table(n, poll, &own, tried)?;
+            for (i, j) in above_diagonal(n) {
+                for value in 0..=times * (table::pairs_of(n - 2) as u32 + 1) {
+                    let mut changed = own.clone();
+                    table::put(&mut changed, n, (i, j), value);
+                    self.try_table(n, poll, &changed, tried)?;
+                }
+            }
+        }
+        Ok(())
+    }
+
     /// All tables with a zero diagonal and equal halves whose other cells are among these.
-    fn try_all_with(&self, n: usize, values: &[u32], tried: &mut Tried) -> Result<(), String> {
+    fn try_all_with(&self, n: usize, poll: u32, values: &[u32], tried: &mut Tried) -> Result<(), String> {
         let places = above_diagonal(n);
         for mut code in 0..values.len().pow(places.len() as u32) {
             let mut cells = vec![0; n * n];
@@ -102,7 +117,7 @@ impl Every {
                 table::put(&mut cells, n, place, values[code % values.len()]);
                 code /= values.len();
             }
-            self.try_table(n, &cells, tried)?;
+            self.try_table(n, poll, &cells, tried)?;
         }
         Ok(())
     }

@@ -5,7 +5,7 @@
 use crate::cases::{Case, Outcome};
 use crate::poll::Record;
 use crate::sheet;
-use crate::table::{put, quartets};
+use crate::table::{put, quartets, scaled, COUNTS, POLL};
 
 /// What the paper says of a case.
 pub enum Due {
@@ -134,6 +134,8 @@ pub fn known_cases() -> Vec<Known> {
     cases.extend(counts());
     cases.extend(lengths());
     cases.extend(polls());
+    cases.extend(polled_tables());
+    cases.extend(polled_counts());
     cases.extend(sheets());
     cases.extend(exports());
     cases.extend(imports());
@@ -144,17 +146,17 @@ pub fn known_cases() -> Vec<Known> {
 fn rebuilds() -> Vec<Known> {
     let rebuilt = |name, n, table, listing: &[u16]| Known {
         name,
-        case: Case::Rebuild { n, table, room: 2 * (n - 2) },
+        case: Case::Rebuild { n, poll: COUNTS, table, room: 2 * (n - 2) },
         due: Due::Written(0, wide(listing)),
     };
     let refused = |name, n, table, number, figure| Known {
         name,
-        case: Case::Rebuild { n, table, room: 2 * (n - 2) },
+        case: Case::Rebuild { n, poll: COUNTS, table, room: 2 * (n - 2) },
         due: Due::Refused(number, figure),
     };
     let guided = |name, merges: [u16; 8], due| Known {
         name,
-        case: Case::Guided { n: 5, table: p7(), merges: merges.to_vec(), room: 6 },
+        case: Case::Guided { n: 5, poll: COUNTS, table: p7(), merges: merges.to_vec(), room: 6 },
         due,
     };
     let mut filled = table(6, &[], 0);
@@ -181,7 +183,7 @@ fn rebuilds() -> Vec<Known> {
         refused("the first unequal halves", 6, unequal, 5, 256 + 2),
         Known {
             name: "a short output before a table that no tree has",
-            case: Case::Rebuild { n: 4, table: table(4, &[], 0), room: 3 },
+            case: Case::Rebuild { n: 4, poll: COUNTS, table: table(4, &[], 0), room: 3 },
             due: Due::Refused(3, 0),
         },
     ]
@@ -235,7 +237,7 @@ fn tables() -> Vec<Known> {
     let (n, top) = (128, u32::MAX);
     let gap = |name, n: usize, table, listing: &[u16], cells| Known {
         name,
-        case: Case::Gap { n, table, listing: listing.into(), room: n * n },
+        case: Case::Gap { n, poll: COUNTS, table, listing: listing.into(), room: n * n },
         due: Due::Cells(0, cells),
     };
     vec![
@@ -255,7 +257,7 @@ fn tables() -> Vec<Known> {
         gap("P7's table against its tree", 5, p7(), &P7_LISTING, (0..25).map(|place| (place, 0)).collect()),
         Known {
             name: "a broken listing before a filled diagonal",
-            case: Case::Gap { n: 3, table: vec![1; 9], listing: vec![1, 1], room: 9 },
+            case: Case::Gap { n: 3, poll: COUNTS, table: vec![1; 9], listing: vec![1, 1], room: 9 },
             due: Due::Refused(8, 1),
         },
     ]
@@ -273,9 +275,9 @@ fn counts() -> Vec<Known> {
             Case::Splits { n, listing: listing.clone(), room },
             Case::Pairing { n, listing: listing.clone(), question: vec![0, 1, 2, 3] },
             Case::Table { n, listing: listing.clone(), room },
-            Case::Gap { n, table: table.clone(), listing, room },
-            Case::Rebuild { n, table: table.clone(), room },
-            Case::Guided { n, table, merges, room },
+            Case::Gap { n, poll: COUNTS, table: table.clone(), listing, room },
+            Case::Rebuild { n, poll: COUNTS, table: table.clone(), room },
+            Case::Guided { n, poll: COUNTS, table, merges, room },
             Case::CheckSheet { sheet: trailer(n as u16, 0) },
             Case::SheetTable { sheet: trailer(n as u16, 0), room },
             Case::SheetName { sheet: trailer(n as u16, 0), leaf: 0 },
@@ -314,11 +316,11 @@ fn lengths() -> Vec<Known> {
         Case::Pairing { n, listing: longer(&listing), question: question.clone() },
         Case::Pairing { n, listing: listing.clone(), question: longer(&question) },
         Case::Table { n, listing: longer(&listing), room: 25 },
-        Case::Gap { n, table: longer(&table), listing: listing.clone(), room: 25 },
-        Case::Gap { n, table: table.clone(), listing: longer(&listing), room: 25 },
-        Case::Rebuild { n, table: longer(&table), room: 6 },
-        Case::Guided { n, table: longer(&table), merges: merges.clone(), room: 6 },
-        Case::Guided { n, table: table.clone(), merges: longer(&merges), room: 6 },
+        Case::Gap { n, poll: COUNTS, table: longer(&table), listing: listing.clone(), room: 25 },
+        Case::Gap { n, poll: COUNTS, table: table.clone(), listing: longer(&listing), room: 25 },
+        Case::Rebuild { n, poll: COUNTS, table: longer(&table), room: 6 },
+        Case::Guided { n, poll: COUNTS, table: longer(&table), merges: merges.clone(), room: 6 },
+        Case::Guided { n, poll: COUNTS, table: table.clone(), merges: longer(&merges), room: 6 },
         Case::Poll { n, records: longer(&p7_poll()), room: 25 },
         Case::Export { sheet: PAPER_SHEET.into(), listing: longer(&listing), room: P7_TEXT.len() },
     ];
@@ -330,7 +332,7 @@ fn lengths() -> Vec<Known> {
         Case::Export { sheet: longer(&PAPER_SHEET), listing: listing.clone(), room: P7_TEXT.len() },
         Case::Import { sheet: longer(&PAPER_SHEET), text: P7_TEXT.into(), room: 6 },
     ];
-    let (rows, cells) = (wide(&listing), wide(&table));
+    let (rows, cells, sixths) = (wide(&listing), wide(&table), wide(&scaled(&table, 6)));
     let bytes: Vec<i64> = rows.iter().flat_map(|&child| [child, 0]).collect();
     let (export, text) = (Due::Written(P7_TEXT.len() as u64, wide(P7_TEXT)), P7_TEXT.to_vec());
     let rooms = [
@@ -339,10 +341,10 @@ fn lengths() -> Vec<Known> {
         (Case::Standardise { n, listing: listing.clone(), room: FAR }, Due::Written(0, rows.clone())),
         (Case::Splits { n, listing: listing.clone(), room: FAR }, Due::Written(0, p7_splits())),
         (Case::Table { n, listing: listing.clone(), room: FAR }, Due::Written(0, cells.clone())),
-        (Case::Gap { n, table: table.clone(), listing, room: FAR }, Due::Written(0, vec![0; 25])),
-        (Case::Rebuild { n, table: table.clone(), room: FAR }, Due::Written(0, rows.clone())),
-        (Case::Guided { n, table, merges, room: FAR }, Due::Written(0, rows)),
-        (Case::Poll { n, records: p7_poll(), room: FAR }, Due::Written(0, cells.clone())),
+        (Case::Gap { n, poll: COUNTS, table: table.clone(), listing, room: FAR }, Due::Written(0, vec![0; 25])),
+        (Case::Rebuild { n, poll: COUNTS, table: table.clone(), room: FAR }, Due::Written(0, rows.clone())),
+        (Case::Guided { n, poll: COUNTS, table, merges, room: FAR }, Due::Written(0, rows)),
+        (Case::Poll { n, records: p7_poll(), room: FAR }, Due::Written(0, sixths)),
         (Case::SheetTable { sheet: PAPER_SHEET.into(), room: FAR }, Due::Written(5, cells)),
         (Case::RebuildSheet { sheet: PAPER_SHEET.into(), room: FAR }, Due::Written(0, bytes)),
     ];
@@ -358,23 +360,96 @@ fn polls() -> Vec<Known> {
     let mut unresolved = p7_poll();
     unresolved.iter_mut().for_each(|record| record.code = 3);
     let mut both = p7_poll();
-    both[3] = Record { leaves: [0, 2, 3, 3], code: 4 };
+    both[3] = Record { leaves: [0, 2, 3, 3], code: 7 };
     let mut code_first = both.clone();
     code_first[2].code = 255;
     let mut largest: Vec<Record> =
         quartets(32).map(|four| Record { leaves: four.map(|leaf| leaf as u8), code: 3 }).collect();
-    largest[35_959].code = 4;
+    largest[35_959].code = 7;
+    let four = |name, code, cells: [u32; 6], due: fn(Vec<i64>) -> Due| {
+        let pairs = [(0, 1), (0, 2), (0, 3), (1, 2), (1, 3), (2, 3)];
+        let named: Vec<(usize, usize, u32)> = pairs.iter().zip(cells).map(|(&(i, j), cell)| (i, j, cell)).collect();
+        let records = vec![Record { leaves: [0, 1, 2, 3], code }];
+        Known { name, case: Case::Poll { n: 4, records, room: 16 }, due: due(wide(&table(4, &named, 0))) }
+    };
+    let (written, refused): (fn(Vec<i64>) -> Due, fn(Vec<i64>) -> Due) =
+        (|cells| Due::Written(0, cells), |_| Due::Refused(11, 0));
     vec![
+        four("code 0 of four leaves", 0, [6, 0, 0, 0, 0, 6], written),
+        four("code 1 of four leaves", 1, [0, 6, 0, 0, 6, 0], written),
+        four("code 2 of four leaves", 2, [0, 0, 6, 6, 0, 0], written),
+        four("code 3 of four leaves", 3, [2; 6], written),
+        four("code 4 of four leaves", 4, [3, 3, 0, 0, 3, 3], written),
+        four("code 5 of four leaves", 5, [3, 0, 3, 3, 0, 3], written),
+        four("code 6 of four leaves", 6, [0, 3, 3, 3, 3, 0], written),
+        four("code 7 of four leaves", 7, [0; 6], refused),
+        four("code 255 of four leaves", 255, [0; 6], refused),
         Known {
             name: "the last record of the largest poll",
             case: Case::Poll { n: 32, records: largest, room: 1_024 },
             due: Due::Refused(11, 35_959),
         },
-        poll("the poll of P7's tree", p7_poll(), Due::Written(0, wide(&p7()))),
-        poll("nothing resolved", unresolved, Due::Written(0, vec![0; 25])),
+        poll("the poll of P7's tree", p7_poll(), Due::Written(0, wide(&scaled(&p7(), 6)))),
+        poll("nothing resolved", unresolved, Due::Written(0, wide(&table(5, &[], 6)))),
         poll("leaves before the code", both, Due::Refused(10, 3)),
         poll("record by record", code_first, Due::Refused(11, 2)),
     ]
+}
+
+/// Every word that says a poll's: what is not 0.
+const POLLS: [u32; 6] = [POLL, 2, 255, 256, 1 << 16, u32::MAX];
+
+/// P7's table and six times it, taken for counts and for a poll's; and tables that are close to six times it.
+fn polled_tables() -> Vec<Known> {
+    let (n, room) = (5, 6);
+    let merges: Vec<u16> = vec![3, 4, 0, 1, 2, 3, 0, 2];
+    let sixths = scaled(&p7(), 6);
+    let rebuilt = || Due::Written(0, wide(&P7_LISTING));
+    let changed = |i, j, value| {
+        let mut cells = sixths.clone();
+        put(&mut cells, n, (i, j), value);
+        cells
+    };
+    let mut cases = Vec::new();
+    for poll in POLLS {
+        let table = sixths.clone();
+        let gaps = Case::Gap { n, poll, table: table.clone(), listing: P7_LISTING.into(), room: 25 };
+        cases.push((gaps, Due::Written(0, vec![0; 25])));
+        cases.push((Case::Guided { n, poll, table: table.clone(), merges: merges.clone(), room }, rebuilt()));
+        cases.push((Case::Rebuild { n, poll, table, room }, rebuilt()));
+        cases.push((Case::Rebuild { n, poll, table: p7(), room }, Due::Refused(6, 0)));
+    }
+    for (table, step) in [(p7(), 0), (changed(0, 1, 19), 1), (changed(0, 1, 3), 1), (changed(0, 3, 1), 3)] {
+        cases.push((Case::Rebuild { n, poll: POLL, table: table.clone(), room }, Due::Refused(6, 0)));
+        cases.push((Case::Guided { n, poll: POLL, table, merges: merges.clone(), room }, Due::Refused(12, step)));
+    }
+    let (table, listing) = (sixths.clone(), P7_LISTING.to_vec());
+    cases.push((Case::Rebuild { n, poll: COUNTS, table: table.clone(), room }, Due::Refused(6, 0)));
+    cases.push((Case::Guided { n, poll: COUNTS, table: table.clone(), merges, room }, Due::Refused(12, 0)));
+    cases.push((Case::Gap { n, poll: COUNTS, table, listing, room: 25 }, Due::Cells(0, vec![(1, 15), (3, 0)])));
+    cases.into_iter().map(|(case, due)| Known { name: "P7's table and a poll's", case, due }).collect()
+}
+
+/// A poll's table has 4 to 32 leaves, and 1 is judged before 2. At 32 the gap has its lower end.
+fn polled_counts() -> Vec<Known> {
+    let mut cases = Vec::new();
+    for n in [3, 33, 128] {
+        for cells in [0, n * n] {
+            let (listing, table, merges) = (comb(n), vec![0; cells], vec![0; 2 * (n - 1)]);
+            cases.push((Case::Gap { n, poll: POLL, table: table.clone(), listing, room: n * n }, Due::Refused(1, 0)));
+            cases.push((Case::Rebuild { n, poll: POLL, table: table.clone(), room: 2 * n }, Due::Refused(1, 0)));
+            cases.push((Case::Guided { n, poll: POLL, table, merges, room: 2 * n }, Due::Refused(1, 0)));
+        }
+    }
+    let ends = |n: usize, end| {
+        let gap = |table| Case::Gap { n, poll: POLL, table, listing: comb(n), room: n * n };
+        let top = table(n, &[(0, n - 1, u32::MAX)], 0);
+        let upper = vec![(1, end), (n - 1, u32::MAX.into())];
+        [(gap(vec![0; n * n]), Due::Cells(0, vec![(1, end), (n - 1, 0)])), (gap(top), Due::Cells(0, upper))]
+    };
+    cases.extend(ends(4, -6));
+    cases.extend(ends(32, -2_610));
+    cases.into_iter().map(|(case, due)| Known { name: "leaf counts of a poll's table", case, due }).collect()
 }
 
 /// Three leaves whose last name runs past the offset; with the bytes of the cells it would equal the first.

@@ -1,10 +1,10 @@
 //! The reference: another program, written from the paper alone, whose results are compared with the part's.
 //!
 //! `reference [N [SEED]]` compares, in this order: the paper's own cases; every tree of 3 to 6 leaves, and one of every
-//! shape of 32, 127 and 128; every listing, question, list of proposals and poll of very few, every text of up to six
-//! bytes and every text close to a right one; and N rounds (20,000 if not given) from SEED on (1 if not given), each
-//! with one case of every kind. It also tries demand 3 on the reference's own
-//! merging, over every finished list of small tables. The first difference stops it.
+//! shape of 32, 127 and 128; the polls of trees' own pairings; every listing, question, list of proposals and poll of
+//! very few, every text of up to six bytes and every text close to a right one; and N rounds (20,000 if not given) from
+//! SEED on (1 if not given), each with one case of every kind. It also tries demand 3 on the reference's own merging,
+//! over every finished list of small tables. The first difference stops it.
 
 mod cases;
 mod chance;
@@ -27,7 +27,7 @@ mod watch;
 use cases::{Case, Kind};
 use chance::Chance;
 use every::Every;
-use known::known_cases;
+use known::{known_cases, Known};
 use std::collections::BTreeMap;
 use std::process::exit;
 use std::time::Instant;
@@ -36,7 +36,10 @@ use tree::Tree;
 /// How many rounds are run when no number is given.
 const ROUNDS: u64 = 20_000;
 
-/// How many tables demand 3 is tried on besides the listed ones.
+/// How many trees drawn by chance are polled for their own pairings.
+const DRAWN_TREES: usize = 60;
+
+/// How many tables of each kind demand 3 is tried on besides the listed ones.
 const DRAWN_TABLES: usize = 5_000;
 
 /// From this many rounds on, every refusal of every operation has to have occurred.
@@ -82,6 +85,7 @@ impl Comparison {
         self.known()?;
         self.every_tree()?;
         self.large_trees()?;
+        self.own_polls()?;
         self.every_input()?;
         if !self.noted {
             let tried = self.every.try_demand_3(DRAWN_TABLES)?;
@@ -118,10 +122,16 @@ impl Comparison {
         println!("the paper's own cases: {}", known.len());
         for (place, known) in known.iter().enumerate() {
             watch::note(&format!("the known case {}", known.name));
-            let outcome = self.put(&known.case, known.name, &mut Chance::new(0, place as u64))?;
-            if !known.due.agrees(&outcome) {
-                return Err(format!("{}: the paper says otherwise than {outcome:?}", known.name));
-            }
+            self.put_known(known, known.name, &mut Chance::new(0, place as u64))?;
+        }
+        Ok(())
+    }
+
+    /// Puts a case of which the paper says what is due.
+    fn put_known(&mut self, known: &Known, origin: &str, chance: &mut Chance) -> Result<(), String> {
+        let outcome = self.put(&known.case, origin, chance)?;
+        if !known.due.agrees(&outcome) {
+            return Err(format!("{}: the paper says otherwise than {outcome:?}", known.name));
         }
         Ok(())
     }
@@ -160,12 +170,33 @@ impl Comparison {
         Ok(())
     }
 
+    /// The polls of every tree of 4 to 7 leaves, of one of every shape of 32, and of trees drawn by chance.
+    fn own_polls(&mut self) -> Result<(), String> {
+        let mut chance = Chance::new(32, 32);
+        let mut trees: Vec<Tree> = (4..=7).flat_map(Tree::every).collect();
+        trees.extend((0..draw::SHAPES).map(|shape| draw::tree_of_shape(shape, 32, &mut chance)));
+        for _ in 0..DRAWN_TREES {
+            let n = chance.between(8, 32);
+            trees.push(draw::any_tree(n, &mut chance));
+        }
+        println!("polls of trees' own pairings: {}", trees.len());
+        for (place, tree) in trees.iter().enumerate() {
+            let origin = format!("own poll {place}");
+            watch::note(&origin);
+            for known in operations::own_poll(tree, &mut chance) {
+                self.put_known(&known, &origin, &mut chance)?;
+            }
+        }
+        Ok(())
+    }
+
     /// Every listing, question, list of proposals and poll of few leaves, and every short text, the bad ones too.
     fn every_input(&mut self) -> Result<(), String> {
         self.put_all("every listing of few leaves", small::every_listing())?;
         self.put_all("every question of few leaves", small::every_question())?;
         self.put_all("every list of proposals of few leaves", small::every_proposals())?;
         self.put_all("every poll of few leaves", small::every_poll())?;
+        self.put_all("the table of every poll of few leaves, rebuilt", small::every_polled_table())?;
         self.put_all("every text of up to six bytes", small::every_text())?;
         self.put_all("every text that is two changes or fewer from a right one", small::every_near_text())
     }

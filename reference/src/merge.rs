@@ -1,12 +1,12 @@
 //! Merges: lists of eligible merges taken in any order, the rebuild by our own choice and the guided rebuild.
 //!
 //! Merging starts with n subtrees of one leaf; each leaf i has m(i) = 0. Two different subtrees A and B of a and b
-//! leaves are eligible when for every i in A and j in B, cell (i,j) = P(n−a−b) + m(i) + m(j). Merging adds P(b) to m
-//! of A's leaves and P(a) to m of B's.
+//! leaves are eligible when for every i in A and j in B, cell (i,j) = P(n−a−b) + m(i) + m(j), or six times that for a
+//! poll's table. Merging adds P(b) to m of A's leaves and P(a) to m of B's.
 
 use crate::chance::Chance;
-use crate::refuse::{judge, judge_input, judge_leaf_count, judge_room, Answer, Refusal};
-use crate::table::{judge_cells, pairs_of};
+use crate::refuse::{judge, judge_input, judge_room, judge_table_count, Answer, Refusal};
+use crate::table::{judge_cells, pairs_of, times};
 use crate::tree::{members, single, size, LeafSet, Tree};
 
 /// The subtrees and the m that the steps so far have left.
@@ -14,6 +14,8 @@ use crate::tree::{members, single, size, LeafSet, Tree};
 pub struct Merging<'a> {
     n: usize,
     table: &'a [u32],
+    /// How many times an expected value counts: 1, or 6 for a poll's table.
+    times: u64,
     m: Vec<u64>,
     /// The subtrees that are left, in no order.
     pub subtrees: Vec<LeafSet>,
@@ -22,15 +24,18 @@ pub struct Merging<'a> {
 }
 
 impl<'a> Merging<'a> {
-    pub fn start(n: usize, table: &'a [u32]) -> Merging<'a> {
-        Merging { n, table, m: vec![0; n], subtrees: (0..n).map(single).collect(), made: Vec::new() }
+    /// Single leaves on a table, which is of counts or a poll's, by the caller's word.
+    pub fn start(n: usize, poll: u32, table: &'a [u32]) -> Merging<'a> {
+        let times = u64::from(times(poll));
+        Merging { n, table, times, m: vec![0; n], subtrees: (0..n).map(single).collect(), made: Vec::new() }
     }
 
     /// Every pair of leaves, one from each subtree, is tested.
     pub fn eligible(&self, first: LeafSet, second: LeafSet) -> bool {
         let outside = pairs_of(self.n - size(first) - size(second));
         let cell = |i: usize, j: usize| u64::from(self.table[i * self.n + j]);
-        members(first).all(|i| members(second).all(|j| cell(i, j) == outside + self.m[i] + self.m[j]))
+        let expected = |i: usize, j: usize| self.times * (outside + self.m[i] + self.m[j]);
+        members(first).all(|i| members(second).all(|j| cell(i, j) == expected(i, j)))
     }
 
     /// Every pair of subtrees that is eligible now.
@@ -68,8 +73,8 @@ impl<'a> Merging<'a> {
 }
 
 /// A finished list of merges in an order left to chance, and the tree if one is left.
-pub fn finished_list(n: usize, table: &[u32], chance: &mut Chance) -> (Vec<[LeafSet; 2]>, Option<Tree>) {
-    let mut merging = Merging::start(n, table);
+pub fn finished_list(n: usize, poll: u32, table: &[u32], chance: &mut Chance) -> (Vec<[LeafSet; 2]>, Option<Tree>) {
+    let mut merging = Merging::start(n, poll, table);
     let mut list = Vec::new();
     loop {
         let eligible = merging.eligible_pairs();
@@ -83,23 +88,23 @@ pub fn finished_list(n: usize, table: &[u32], chance: &mut Chance) -> (Vec<[Leaf
 }
 
 /// The tree rebuilt from a table by merges of our own choice: 1, 2, 3, 4, 5, 6.
-pub fn rebuild(n: usize, table: &[u32], room: usize, chance: &mut Chance) -> Answer<Vec<u16>> {
-    judge_leaf_count(n)?;
+pub fn rebuild(n: usize, poll: u32, table: &[u32], room: usize, chance: &mut Chance) -> Answer<Vec<u16>> {
+    judge_table_count(n, poll)?;
     judge_input(table.len(), n * n)?;
     judge_room(room, 2 * (n - 2))?;
     judge_cells(n, table)?;
-    let (_, tree) = finished_list(n, table, chance);
+    let (_, tree) = finished_list(n, poll, table, chance);
     Ok(tree.ok_or(Refusal::NoTree)?.standard_listing())
 }
 
 /// The tree rebuilt by a lent list of n−1 proposed pairs of leaf numbers: 1, 2, 3, 4, 5, 12.
-pub fn rebuild_guided(n: usize, table: &[u32], merges: &[u16], room: usize) -> Answer<Vec<u16>> {
-    judge_leaf_count(n)?;
+pub fn rebuild_guided(n: usize, poll: u32, table: &[u32], merges: &[u16], room: usize) -> Answer<Vec<u16>> {
+    judge_table_count(n, poll)?;
     judge_input(table.len(), n * n)?;
     judge_input(merges.len(), 2 * (n - 1))?;
     judge_room(room, 2 * (n - 2))?;
     judge_cells(n, table)?;
-    let mut merging = Merging::start(n, table);
+    let mut merging = Merging::start(n, poll, table);
     for (step, proposal) in merges.chunks(2).enumerate() {
         let [first, second] = [usize::from(proposal[0]), usize::from(proposal[1])];
         judge(first < n && second < n, Refusal::Proposal { step })?;

@@ -3,7 +3,9 @@
 use crate::cases::Case;
 use crate::chance::Chance;
 use crate::draw;
-use crate::table;
+use crate::known::{Due, Known};
+use crate::poll::{poll, LAST_CODE};
+use crate::table::{self, COUNTS, POLL};
 use crate::texts;
 use crate::tree::Tree;
 
@@ -20,6 +22,15 @@ fn questions(n: usize, chance: &mut Chance) -> Vec<Vec<u16>> {
     questions.iter().map(|question| question.iter().map(|&leaf| leaf as u16).collect()).collect()
 }
 
+/// A table rebuilt by several lists of merges.
+fn guided(n: usize, poll: u32, table: &[u32], chance: &mut Chance) -> Vec<Case> {
+    let case = |_| {
+        let merges = draw::any_merges(n, poll, table, chance);
+        Case::Guided { n, poll, table: table.to_vec(), merges, room: 2 * (n - 2) }
+    };
+    (0..5).map(case).collect()
+}
+
 /// One case or more of every operation for a tree, all accepted.
 pub fn cases_of_tree(tree: &Tree, chance: &mut Chance) -> Vec<Case> {
     let n = tree.leaves;
@@ -32,30 +43,55 @@ pub fn cases_of_tree(tree: &Tree, chance: &mut Chance) -> Vec<Case> {
         Case::Standardise { n, listing: listing(chance), room: children },
         Case::Splits { n, listing: listing(chance), room: 16 * (n - 3) },
         Case::Table { n, listing: listing(chance), room: cells },
-        Case::Gap { n, table: table.clone(), listing: listing(chance), room: cells },
-        Case::Gap { n, table: vec![0; cells], listing: listing(chance), room: cells },
+        Case::Gap { n, poll: COUNTS, table: table.clone(), listing: listing(chance), room: cells },
+        Case::Gap { n, poll: COUNTS, table: vec![0; cells], listing: listing(chance), room: cells },
     ];
     for question in questions(n, chance) {
         cases.push(Case::Pairing { n, listing: listing(chance), question });
     }
     if (4..=32).contains(&n) {
+        let sixths = table::scaled(&table, 6);
         cases.push(Case::Poll { n, records: draw::poll_of_tree(tree), room: cells });
+        cases.push(Case::Gap { n, poll: POLL, table: sixths.clone(), listing: listing(chance), room: cells });
+        cases.push(Case::Gap { n, poll: POLL, table: vec![0; cells], listing: listing(chance), room: cells });
+        cases.extend(guided(n, POLL, &sixths, chance));
+        cases.push(Case::Rebuild { n, poll: POLL, table: sixths, room: children });
     }
-    cases.extend((0..5).map(|_| {
-        let merges = draw::any_merges(n, &table, chance);
-        Case::Guided { n, table: table.clone(), merges, room: children }
-    }));
+    cases.extend(guided(n, COUNTS, &table, chance));
     cases.push(Case::Export { sheet: sheet.clone(), listing: listing(chance), room: texts::export_length(&sheet) });
     cases.extend((0..5).map(|_| {
         let text = texts::right_text(tree, &sheet, chance);
         Case::Import { sheet: sheet.clone(), text, room: children }
     }));
     cases.extend([
-        Case::Rebuild { n, table, room: children },
+        Case::Rebuild { n, poll: COUNTS, table, room: children },
         Case::CheckSheet { sheet: sheet.clone() },
         Case::SheetTable { sheet: sheet.clone(), room: cells },
         Case::SheetName { sheet: sheet.clone(), leaf: n - 1 },
         Case::RebuildSheet { sheet, room: 2 * children },
     ]);
     cases
+}
+
+/// The poll of a tree's own pairings has six times the table that is counted directly, and is rebuilt as the tree. No
+/// tree has the table where one record is a tie instead.
+pub fn own_poll(tree: &Tree, chance: &mut Chance) -> Vec<Known> {
+    let n = tree.leaves;
+    let (cells, children) = (n * n, 2 * (n - 2));
+    let (mut records, sixths) = (draw::poll_of_tree(tree), table::scaled(&table::by_far_sides(tree), 6));
+    let (listing, wide) = (draw::any_listing(tree, chance), sixths.iter().map(|&cell| cell.into()).collect());
+    let merges = draw::any_merges(n, POLL, &sixths, chance);
+    let standard = || Due::Written(0, tree.standard_listing().iter().map(|&child| child.into()).collect());
+    let (name, table) = ("the poll of a tree's own pairings", sixths.clone());
+    let mut known = vec![
+        (Case::Poll { n, records: records.clone(), room: cells }, Due::Written(0, wide)),
+        (Case::Rebuild { n, poll: POLL, table: table.clone(), room: children }, standard()),
+        (Case::Guided { n, poll: POLL, table: table.clone(), merges, room: children }, standard()),
+        (Case::Gap { n, poll: POLL, table, listing, room: cells }, Due::Written(0, vec![0; cells])),
+    ];
+    let place = chance.below(records.len());
+    records[place].code = chance.between(3, LAST_CODE.into()) as u8;
+    let table = poll(n, &records, cells).expect("nothing is wrong with the poll");
+    known.push((Case::Rebuild { n, poll: POLL, table, room: children }, Due::Refused(6, 0)));
+    known.into_iter().map(|(case, due)| Known { name, case, due }).collect()
 }

@@ -23,6 +23,7 @@ unsafe extern "C" {
     fn quartree_table(n: usize, listing: *const u16, len: usize, out: *mut u32, room: usize) -> u64;
     fn quartree_gap(
         n: usize,
+        poll: u32,
         table: *const u32,
         cells: usize,
         listing: *const u16,
@@ -30,9 +31,10 @@ unsafe extern "C" {
         out: *mut i64,
         room: usize,
     ) -> u64;
-    fn quartree_rebuild(n: usize, table: *const u32, cells: usize, out: *mut u16, room: usize) -> u64;
+    fn quartree_rebuild(n: usize, poll: u32, table: *const u32, cells: usize, out: *mut u16, room: usize) -> u64;
     fn quartree_rebuild_guided(
         n: usize,
+        poll: u32,
         table: *const u32,
         cells: usize,
         merges: *const u16,
@@ -177,18 +179,18 @@ pub fn table(n: usize, listing: &mut Lent<u16>, out: &mut Lent<u32>) -> u64 {
     unsafe { quartree_table(n, listing.pointer(), listing.len(), out.pointer(), out.len()) }
 }
 
-pub fn gap(n: usize, table: &mut Lent<u32>, listing: &mut Lent<u16>, out: &mut Lent<i64>) -> u64 {
-    let (cells, children) = (table.len(), listing.len());
-    unsafe { quartree_gap(n, table.pointer(), cells, listing.pointer(), children, out.pointer(), out.len()) }
+pub fn gap(n: usize, poll: u32, table: &mut Lent<u32>, listing: &mut Lent<u16>, out: &mut Lent<i64>) -> u64 {
+    let (cells, children, room) = (table.len(), listing.len(), out.len());
+    unsafe { quartree_gap(n, poll, table.pointer(), cells, listing.pointer(), children, out.pointer(), room) }
 }
 
-pub fn rebuild(n: usize, table: &mut Lent<u32>, out: &mut Lent<u16>) -> u64 {
-    unsafe { quartree_rebuild(n, table.pointer(), table.len(), out.pointer(), out.len()) }
+pub fn rebuild(n: usize, poll: u32, table: &mut Lent<u32>, out: &mut Lent<u16>) -> u64 {
+    unsafe { quartree_rebuild(n, poll, table.pointer(), table.len(), out.pointer(), out.len()) }
 }
 
-pub fn rebuild_guided(n: usize, table: &mut Lent<u32>, merges: &mut Lent<u16>, out: &mut Lent<u16>) -> u64 {
-    let (cells, leaves) = (table.len(), merges.len());
-    unsafe { quartree_rebuild_guided(n, table.pointer(), cells, merges.pointer(), leaves, out.pointer(), out.len()) }
+pub fn rebuild_guided(n: usize, poll: u32, table: &mut Lent<u32>, merges: &mut Lent<u16>, out: &mut Lent<u16>) -> u64 {
+    let (cells, leaves, room) = (table.len(), merges.len(), out.len());
+    unsafe { quartree_rebuild_guided(n, poll, table.pointer(), cells, merges.pointer(), leaves, out.pointer(), room) }
 }
 
 pub fn poll(n: usize, records: &mut Lent<Record>, out: &mut Lent<u32>) -> u64 {
@@ -300,6 +302,7 @@ mod own {
     #[no_mangle]
     pub unsafe extern "C" fn quartree_gap(
         n: usize,
+        poll: u32,
         table: *const u32,
         cells: usize,
         listing: *const u16,
@@ -308,24 +311,26 @@ mod own {
         room: usize,
     ) -> u64 {
         let (table, listing) = unsafe { (from_raw_parts(table, cells), from_raw_parts(listing, len)) };
-        unsafe { give(table::gap(n, table, listing, room), out, room) }
+        unsafe { give(table::gap(n, poll, table, listing, room), out, room) }
     }
 
     #[no_mangle]
     pub unsafe extern "C" fn quartree_rebuild(
         n: usize,
+        poll: u32,
         table: *const u32,
         cells: usize,
         out: *mut u16,
         room: usize,
     ) -> u64 {
         let table = unsafe { from_raw_parts(table, cells) };
-        unsafe { give(merge::rebuild(n, table, room, &mut own_choice()), out, room) }
+        unsafe { give(merge::rebuild(n, poll, table, room, &mut own_choice()), out, room) }
     }
 
     #[no_mangle]
     pub unsafe extern "C" fn quartree_rebuild_guided(
         n: usize,
+        poll: u32,
         table: *const u32,
         cells: usize,
         merges: *const u16,
@@ -334,7 +339,7 @@ mod own {
         room: usize,
     ) -> u64 {
         let (table, merges) = unsafe { (from_raw_parts(table, cells), from_raw_parts(merges, len)) };
-        unsafe { give(merge::rebuild_guided(n, table, merges, room), out, room) }
+        unsafe { give(merge::rebuild_guided(n, poll, table, merges, room), out, room) }
     }
 
     #[no_mangle]

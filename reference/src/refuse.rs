@@ -5,10 +5,12 @@
 //! then 12 or 6. Of texts 17, then 18, then 19 come last; only export judges 3 after all else. Every operation below
 //! judges in this order, by `?` on one judgement after the other.
 
+use crate::table::COUNTS;
+
 /// Why a call is refused. Positions, records, steps and leaves count from 0.
 #[derive(Clone, Copy, Debug, PartialEq, Eq)]
 pub enum Refusal {
-    /// 1: leaf count outside 3..128 (polls 4..32).
+    /// 1: leaf count outside 3..128 (polls and their tables 4..32).
     LeafCount,
     /// 2: lent input not exactly as long as the count needs.
     InputLength,
@@ -28,7 +30,7 @@ pub enum Refusal {
     Question { position: usize },
     /// 10: record's leaves are not those due there.
     RecordLeaves { record: usize },
-    /// 11: pairing code above 3.
+    /// 11: pairing code above 6.
     RecordCode { record: usize },
     /// 12: proposal names a leaf ≥ n, one subtree twice, or an ineligible pair.
     Proposal { step: usize },
@@ -108,14 +110,22 @@ pub fn judge(holds: bool, refusal: Refusal) -> Answer<()> {
     holds.then_some(()).ok_or(refusal)
 }
 
-/// Refusal 1 for trees, tables and listings.
+/// Refusal 1 for trees, listings and tables of counts.
 pub fn judge_leaf_count(n: usize) -> Answer<()> {
     judge((3..=128).contains(&n), Refusal::LeafCount)
 }
 
-/// Refusal 1 for polls.
+/// Refusal 1 for polls and their tables.
 pub fn judge_poll_count(n: usize) -> Answer<()> {
     judge((4..=32).contains(&n), Refusal::LeafCount)
+}
+
+/// Refusal 1 for a lent table, by the caller's word for it.
+pub fn judge_table_count(n: usize, poll: u32) -> Answer<()> {
+    match poll {
+        COUNTS => judge_leaf_count(n),
+        _ => judge_poll_count(n),
+    }
 }
 
 /// Refusal 2.

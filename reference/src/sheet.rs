@@ -8,7 +8,7 @@
 use crate::chance::Chance;
 use crate::merge::finished_list;
 use crate::refuse::{judge, judge_leaf_count, judge_room, Answer, Refusal};
-use crate::table::put;
+use crate::table::{put, COUNTS};
 use std::ops::Range;
 
 /// The longest sheet: 128 names of 40 bytes, their cells and the trailer.
@@ -110,7 +110,7 @@ pub fn rebuild_sheet(sheet: &[u8], room: usize, chance: &mut Chance) -> Answer<V
     let figures = judge_trailer(sheet)?;
     judge_room(room, 4 * (figures.n - 2))?;
     judge_names(sheet, figures)?;
-    let (_, tree) = finished_list(figures.n, &cells(sheet, figures), chance);
+    let (_, tree) = finished_list(figures.n, COUNTS, &cells(sheet, figures), chance);
     let listing = tree.ok_or(Refusal::NoTree)?.standard_listing();
     Ok(listing.iter().flat_map(|child| child.to_le_bytes()).collect())
 }

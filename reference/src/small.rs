@@ -1,8 +1,8 @@
 //! Everything of few leaves: each listing, question, list of proposals and poll, and each short text, the bad ones too.
 
 use crate::cases::Case;
-use crate::poll::Record;
-use crate::table;
+use crate::poll::{poll, Record, LAST_CODE};
+use crate::table::{self, COUNTS, POLL};
 use crate::tree::Tree;
 use std::collections::BTreeSet;
 
@@ -39,20 +39,34 @@ pub fn every_proposals() -> impl Iterator<Item = Case> {
         let mut changed = own.clone();
         table::put(&mut changed, n, (n - 2, n - 1), 1 - own[n * n - 2]);
         vec![own, changed].into_iter().flat_map(move |table| {
-            let case = move |merges| Case::Guided { n, table: table.clone(), merges, room: 2 * (n - 2) };
+            let room = 2 * (n - 2);
+            let case = move |merges| Case::Guided { n, poll: COUNTS, table: table.clone(), merges, room };
             every_list(2 * (n - 1), n).map(case)
         })
     })
 }
 
-/// Every poll of 4 and 5 leaves with codes up to 4.
-pub fn every_poll() -> impl Iterator<Item = Case> {
-    (4..=5).flat_map(|n| {
+/// Every poll of 4 and 5 leaves with codes up to a greatest, and the leaf count.
+fn every_records(greatest: u8) -> impl Iterator<Item = (usize, Vec<Record>)> {
+    (4..=5).flat_map(move |n| {
         let quartets: Vec<[u8; 4]> = table::quartets(n).map(|four| four.map(|leaf| leaf as u8)).collect();
-        every_list(quartets.len(), 4).map(move |codes| {
+        every_list(quartets.len(), greatest.into()).map(move |codes| {
             let record = |(&leaves, code): (&[u8; 4], u16)| Record { leaves, code: code as u8 };
-            Case::Poll { n, records: quartets.iter().zip(codes).map(record).collect(), room: n * n }
+            (n, quartets.iter().zip(codes).map(record).collect())
         })
+    })
+}
+
+/// Every poll of 4 and 5 leaves with codes up to 7.
+pub fn every_poll() -> impl Iterator<Item = Case> {
+    every_records(LAST_CODE + 1).map(|(n, records)| Case::Poll { n, records, room: n * n })
+}
+
+/// The table of every poll of 4 and 5 leaves, rebuilt as a poll's.
+pub fn every_polled_table() -> impl Iterator<Item = Case> {
+    every_records(LAST_CODE).map(|(n, records)| {
+        let table = poll(n, &records, n * n).expect("nothing is wrong with the poll");
+        Case::Rebuild { n, poll: POLL, table, room: 2 * (n - 2) }
     })
 }
 

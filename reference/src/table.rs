@@ -1,9 +1,9 @@
 //! Counts: the table of a tree, taken from its edges, and the gap between a table and a tree.
 //!
 //! A table is n × n cells of 32 bits, row by row. Cell (i,j) of a tree's table is the number of unordered pairs p,q of
-//! other leaves with i,j paired against p,q.
+//! other leaves with i,j paired against p,q. A poll's table counts sixths: a tree has it when it is six times its own.
 
-use crate::refuse::{judge, judge_input, judge_leaf_count, judge_room, Answer, Refusal};
+use crate::refuse::{judge, judge_input, judge_leaf_count, judge_room, judge_table_count, Answer, Refusal};
 use crate::tree::{all_leaves, judge_children, members, single, size, LeafSet, Tree};
 
 /// Up to this many leaves a table is counted by going through all quartets.
@@ -13,6 +13,23 @@ const QUARTETS_UP_TO: usize = 16;
 pub fn pairs_of(k: usize) -> u64 {
     let k = k as u64;
     k * k.saturating_sub(1) / 2
+}
+
+/// The caller's word for a table of counts, and one for a poll's; any other number says the same as this one.
+pub const COUNTS: u32 = 0;
+pub const POLL: u32 = 1;
+
+/// How many times a tree's cell counts in a table, by the caller's word.
+pub fn times(poll: u32) -> u32 {
+    match poll {
+        COUNTS => 1,
+        _ => 6,
+    }
+}
+
+/// A table with every cell so many times as large.
+pub fn scaled(table: &[u32], times: u32) -> Vec<u32> {
+    table.iter().map(|cell| cell.wrapping_mul(times)).collect()
 }
 
 /// The table of a tree.
@@ -35,7 +52,7 @@ pub fn by_quartets(tree: &Tree) -> Vec<u32> {
     let n = tree.leaves;
     let mut cells = vec![0; n * n];
     for four in quartets(n) {
-        add_quartet(&mut cells, n, four, tree.pairing(four));
+        add_quartet(&mut cells, n, four, tree.pairing(four), 1);
     }
     cells
 }
@@ -69,16 +86,16 @@ pub fn put(cells: &mut [u32], n: usize, (i, j): (usize, usize), value: u32) {
     cells[j * n + i] = value;
 }
 
-/// Adds 1 to the two cells of a pairing's pairs and to their mirror cells.
-pub fn add_quartet(cells: &mut [u32], n: usize, [a, b, c, d]: [usize; 4], pairing: u8) {
+/// Adds so much to the two cells of a pairing's pairs and to their mirror cells.
+pub fn add_quartet(cells: &mut [u32], n: usize, [a, b, c, d]: [usize; 4], pairing: u8, much: u32) {
     let pairs = match pairing {
         0 => [(a, b), (c, d)],
         1 => [(a, c), (b, d)],
         _ => [(a, d), (b, c)],
     };
     for (i, j) in pairs {
-        cells[i * n + j] += 1;
-        cells[j * n + i] += 1;
+        cells[i * n + j] += much;
+        cells[j * n + i] += much;
     }
 }
 
@@ -110,14 +127,15 @@ pub fn table(n: usize, listing: &[u16], room: usize) -> Answer<Vec<u32>> {
     Ok(of_tree(&Tree::from_listing(n, listing)))
 }
 
-/// The gap at every cell, the table's cell less the tree's: 1, 2, 3, 7, 8, 4, 5.
-pub fn gap(n: usize, table: &[u32], listing: &[u16], room: usize) -> Answer<Vec<i64>> {
-    judge_leaf_count(n)?;
+/// The gap at every cell, the table's cell less the tree's, which counts six times for a poll's table: 1, 2, 3, 7, 8, 4,
+/// 5.
+pub fn gap(n: usize, poll: u32, table: &[u32], listing: &[u16], room: usize) -> Answer<Vec<i64>> {
+    judge_table_count(n, poll)?;
     judge_input(table.len(), n * n)?;
     judge_input(listing.len(), 2 * (n - 2))?;
     judge_room(room, n * n)?;
     judge_children(n, listing)?;
     judge_cells(n, table)?;
-    let own = of_tree(&Tree::from_listing(n, listing));
+    let own = scaled(&of_tree(&Tree::from_listing(n, listing)), times(poll));
     Ok(table.iter().zip(own).map(|(&cell, own)| i64::from(cell) - i64::from(own)).collect())
 }

@@ -9,10 +9,14 @@ pub fn say_number(words: &[u8], number: u64) {
     io::write_all(1, b"\n");
 }
 
-// Why an operation refused: 12 comes with its step, and 15 with its leaf.
+// Why an operation refused: 11 comes with its record, 12 with its step, and 15 with its leaf.
 fn say_cause(cause: Refusal) {
     io::write_all(1, b"refused ");
     io::print_decimal(1, refusals::number(cause) as u64);
+    if let Refusal::PairingCode(record) = cause {
+        say_number(b" at record ", record as u64);
+        return;
+    }
     if let Refusal::Proposal(step) = cause {
         say_number(b" at step ", step as u64);
         return;

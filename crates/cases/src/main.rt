@@ -1,5 +1,6 @@
 // Runs the cases of trees and tables that the scope gives and no theorem lists.
 use case_lines::say;
+use limits::Kind;
 use refusals::Outcome;
 ghost use mathlib.Core.Path.{_≡_};
 ghost use lib.ListN.{length};
@@ -25,7 +26,7 @@ fn say_gaps(gaps: &[i64; 25]) {
 fn gap_of_zeros() {
     let listing: [u16; 6] = [3, 4, 2, 5, 1, 6];
     let mut gaps = [0i64; 25];
-    let answer: Outcome = tree_tables::gap(5, &[0u32; 25], &listing, &mut gaps);
+    let answer: Outcome = gaps::gap(Kind::Counts, 5, &[0u32; 25], &listing, &mut gaps);
     say(b"gap of the zero table against 3 4 2 5 1 6: ", answer);
     say_gaps(&gaps);
 }
@@ -60,7 +61,10 @@ fn leaf_count(what: &[u8], n: usize) {
     io::write_all(1, b"check, table and rebuild, ");
     say(what, listings::check(n, &listing));
     say(b"", tree_tables::table(n, &listing, &mut cells));
-    say(b"", own_rebuild::rebuild(n, &cells, &mut rebuilt));
+    say(
+        b"",
+        own_rebuild::rebuild(Kind::Counts, n, &cells, &mut rebuilt),
+    );
 }
 
 fn leaf_counts() {

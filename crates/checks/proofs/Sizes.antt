@@ -11,7 +11,8 @@ use lib.Dec.{leb, eqb}
 use Rattle.base.proofs.Bools.{bool?, never, and-both}
 use Rattle.limits.specs.declared.Kind.{Kind}
 use Rattle.limits.specs.declared.Kind.the-variants.{Counts}
-use Rattle.limits.specs.Limits.{fewest-of, most-of, IsCountOf}
+use Rattle.limits.specs.Limits.{fewest-of, most-of, IsLeafCount, IsCountOf}
+use Rattle.limits.proofs.TableKinds.{leaf-count-of}
 use Rattle.refusals.specs.declared.Refusal.{Refusal}
 use Rattle.refusals.specs.declared.Refusal.the-variants.{LeafCount as Count, InputLength, OutputRoom}
 use Rattle.refusals.specs.Refusals.{refuse, judged}
@@ -95,6 +96,11 @@ module _ (kind : Kind) (n due lent : ℕ) where
     | inr f ↦ judged-stops _ (count-stops kind n f) ∙ sym (judged-stops _ (count-stops kind n f))
   ]
 
+  -- the same, where it is known for every leaf count of a tree: a poll's is one
+  pub input-as-due :
+      (due′ : ℕ) → (IsLeafCount n → due ≡ due′) → input-refusal kind n due lent ≡ input-refusal kind n due′ lent
+  input-as-due due′ h = input-due due′ (λ c. h (leaf-count-of kind n c))
+
 -- And the room for a result.
 pub record RightSizes (kind : Kind) (n due lent result room : ℕ) : Type 0 where
   pub count : IsCountOf kind n
@@ -130,6 +136,12 @@ module _ (kind : Kind) (n due lent result room : ℕ) where
           right-count kind n ≡ false → (d r : ℕ)
           → judged (input-refusal kind n d lent ∷ room-refusal r room ∷ []) ≡ some Count
       stops f d r = judged-stops _ (unfold input-refusal in judged-stops _ (count-stops kind n f))
+
+  pub sizes-as-due :
+      (due′ result′ : ℕ) → (IsLeafCount n → due ≡ due′) → (IsLeafCount n → result ≡ result′)
+      → sizes-refusal kind n due lent result room ≡ sizes-refusal kind n due′ lent result′ room
+  sizes-as-due due′ result′ h h′ =
+      sizes-due due′ result′ (λ c. let k = leaf-count-of kind n c in (h k, h′ k))
 
 -- which refusals of sizes may arise
 module _ (P : Refusal → Type 0) (kind : Kind) (n due lent result room : ℕ) (count : P Count)

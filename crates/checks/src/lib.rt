@@ -129,9 +129,9 @@ pub fn judge_listing_sizes(n: usize, lent: usize, result: usize, room: usize) ->
     judge_sizes(Kind::Counts, n, listing_numbers(n), lent, result, room)
 }
 
-// The sizes of a call that is lent a table: 1, 2, 3.
-pub fn judge_table_sizes(n: usize, lent: usize, result: usize, room: usize) -> Outcome
-    ensures { λ r. ⌜ r ≡ outcome-of (sizes-refusal Counts n (n * n) lent result room) ⌝ }
+// The sizes of a call that is lent a table of this kind: 1, 2, 3.
+pub fn judge_table_sizes(kind: Kind, n: usize, lent: usize, result: usize, room: usize) -> Outcome
+    ensures { λ r. ⌜ r ≡ outcome-of (sizes-refusal kind n (n * n) lent result room) ⌝ }
 {
-    judge_sizes(Kind::Counts, n, table_cells(n), lent, result, room)
+    judge_sizes(kind, n, table_cells(n), lent, result, room)
 }

@@ -23,7 +23,7 @@ pub fn as_expected(cell: u32, expected: u32) -> bool
     cell == expected
 }
 
-// Cell (i, j) of the table that is lent.
+// Cell (i, j) of the table that is lent. For the crates above.
 pub fn cell_at(n: usize, table: &[u32], packed: &[u8], i: usize, j: usize) -> u32
     requires { ⌜ (n ≤ most-leaves) × (length (lent-table n (now table) (now packed)) ≡ n * n) × (i < n) × (j < n) ⌝ }
     ensures { λ r. ⌜ r ≡ cell n (lent-table n (now (table .entry)) (now (packed .entry))) i j ⌝ }
@@ -141,7 +141,7 @@ fn block_fits(
 }
 
 // Whether the subtrees labelled `a` and `b` may be merged. One cell is looked at first; then, over the rows of the
-// smaller one, all.
+// smaller one, all. For the crates above.
 pub fn pair_fits(
     n: usize,
     table: &[u32],

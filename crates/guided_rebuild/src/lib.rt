@@ -14,7 +14,7 @@ use state_arrays::scaled_counts;
 ghost use mathlib.Core.Path.{_≡_};
 ghost use Prim.Native.Nat.{_-_, _*_, _<_, _≤_};
 ghost use lib.ListN.{length, getD};
-ghost use Rattle.limits.specs.Limits.{IsLeafCount};
+ghost use Rattle.limits.specs.Limits.{IsLeafCount, scale-of};
 ghost use Rattle.refusals.specs.Refusals.{outcome, written};
 ghost use Rattle.refusals.specs.Meanings.{Gives};
 ghost use Rattle.trees.specs.Tables.{IsTable};
@@ -22,7 +22,7 @@ ghost use Rattle.merging.specs.Merging.{start};
 ghost use Rattle.merging.specs.Rebuilds.{guided};
 ghost use Rattle.rebuild_answers.specs.Operations.{proposals, guided-answer};
 ghost use Rattle.rebuild_answers.specs.Meanings.{GuidedMeans};
-ghost use Rattle.state_arrays.specs.inner.Fits.{IsScale, scale-of, Given};
+ghost use Rattle.state_arrays.specs.inner.Fits.{counts-scale, Given};
 ghost use Rattle.guided_rebuild.specs.inner.Proposals.{HoldsReached, HoldsSomeReached, Labels, Proposed, Stopped};
 
 // The proposal to merge the subtrees labelled `a` and `b`: whether these are two, and eligible. If so, they are merged.
@@ -36,8 +36,8 @@ fn try_merge(
     a: usize,
     b: usize,
 ) -> bool
-    requires { ⌜ Labels n (scale-of (now p)) (now table) (now label) (now m) (now sizes) (now p) a b ⌝ }
-    ensures { λ r. ⌜ Proposed n (scale-of (now (p .entry))) (now (table .entry))
+    requires { ⌜ Labels n (counts-scale (now p)) (now table) (now label) (now m) (now sizes) (now p) a b ⌝ }
+    ensures { λ r. ⌜ Proposed n (counts-scale (now (p .entry))) (now (table .entry))
         (now (label .entry)) (now (m .entry)) (now (sizes .entry))
         (now (label .exit)) (now (m .exit)) (now (sizes .exit)) a b r ⌝ }
 {
@@ -66,9 +66,9 @@ fn propose(
     i: usize,
     j: usize,
 ) -> bool
-    requires { ⌜ Given n (scale-of (now p)) (now table) (now p)
-        × HoldsSomeReached n (scale-of (now p)) (now table) (now label) (now m) (now sizes) ⌝ }
-    ensures { λ r. ⌜ Proposed n (scale-of (now (p .entry))) (now (table .entry))
+    requires { ⌜ Given n (counts-scale (now p)) (now table) (now p)
+        × HoldsSomeReached n (counts-scale (now p)) (now table) (now label) (now m) (now sizes) ⌝ }
+    ensures { λ r. ⌜ Proposed n (counts-scale (now (p .entry))) (now (table .entry))
         (now (label .entry)) (now (m .entry)) (now (sizes .entry))
         (now (label .exit)) (now (m .exit)) (now (sizes .exit)) i j r ⌝ }
 {
@@ -101,9 +101,9 @@ fn accepted_steps(
     sizes: &mut [usize; MOST_LEAVES],
     p: &[u32; LEAF_COUNTS],
 ) -> usize
-    requires { ⌜ Given n (scale-of (now p)) (now table) (now p) × (length (now merges) ≡ 2 * (n - 1))
-        × HoldsReached n (scale-of (now p)) (now table) (now label) (now m) (now sizes) start ⌝ }
-    ensures { λ k. ⌜ Stopped n (scale-of (now (p .entry))) (now (table .entry)) (now (merges .entry)) k ⌝ }
+    requires { ⌜ Given n (counts-scale (now p)) (now table) (now p) × (length (now merges) ≡ 2 * (n - 1))
+        × HoldsReached n (counts-scale (now p)) (now table) (now label) (now m) (now sizes) start ⌝ }
+    ensures { λ k. ⌜ Stopped n (counts-scale (now (p .entry))) (now (table .entry)) (now (merges .entry)) k ⌝ }
 {
     let steps = n - 1;
     let mut k: usize = 0;
@@ -118,17 +118,19 @@ fn accepted_steps(
     steps
 }
 
-// The guided rebuild of a table at this scale that has passed the checks placed before 12. Step k proposes to merge the
+// The guided rebuild of a table of this kind that has passed the checks placed before 12. Step k proposes to merge the
 // subtrees that hold the leaves at 2 k and 2 k + 1. Where all are accepted, our own rebuild writes the listing of the
 // same tree; else 12 with the first that is not, and `out` as it was.
-fn guided_checked(n: usize, scale: u32, table: &[u32], merges: &[u16], out: &mut [u16]) -> Outcome
-    requires { ⌜ IsLeafCount n × IsScale scale × IsTable n (now table) × (2 * (n - 2) ≤ length (now out))
+fn guided_checked(kind: Kind, n: usize, table: &[u32], merges: &[u16], out: &mut [u16]) -> Outcome
+    requires { ⌜ IsLeafCount n × IsTable n (now table) × (2 * (n - 2) ≤ length (now out))
         × (length (now merges) ≡ 2 * (n - 1)) ⌝ }
-    ensures answer { λ r. ⌜ r ≡ outcome (guided n scale (now (table .entry)) (proposals (now (merges .entry)))) ⌝ }
+    ensures answer { λ r. ⌜ r
+        ≡ outcome (guided n (scale-of kind) (now (table .entry)) (proposals (now (merges .entry)))) ⌝ }
     ensures buffer { λ _. ⌜ now (out .exit)
-        ≡ written (guided n scale (now (table .entry)) (proposals (now (merges .entry)))) (now (out .entry)) ⌝ }
+        ≡ written (guided n (scale-of kind) (now (table .entry)) (proposals (now (merges .entry))))
+        (now (out .entry)) ⌝ }
 {
-    let p = scaled_counts(n, scale);
+    let p = scaled_counts(kind, n);
     let mut label: [u32; MOST_LEAVES] = [0; MOST_LEAVES];
     let mut m: [u32; MOST_LEAVES] = [0; MOST_LEAVES];
     let mut sizes: [usize; MOST_LEAVES] = [1; MOST_LEAVES];
@@ -137,28 +139,34 @@ fn guided_checked(n: usize, scale: u32, table: &[u32], merges: &[u16], out: &mut
     if k < n - 1 {
         return Outcome::Refused(Refusal::Proposal(k));
     }
-    rebuild_checked(n, scale, table, b"", out)
+    rebuild_checked(kind, n, table, b"", out)
 }
 
-// The guided rebuild: writes the standard listing of the tree that has the table at the front of `out`, where each of
-// the proposed merges names a pair that is eligible at its turn.
-pub fn rebuild_guided(n: usize, table: &[u32], merges: &[u16], out: &mut [u16]) -> Outcome
+// The guided rebuild of a table of this kind: writes the standard listing of the tree that has it at the front of
+// `out`, where each of the proposed merges names a pair that is eligible at its turn.
+pub fn rebuild_guided(
+    kind: Kind,
+    n: usize,
+    table: &[u32],
+    merges: &[u16],
+    out: &mut [u16],
+) -> Outcome
     ensures answer { λ r. ⌜ r
-        ≡ outcome (guided-answer n (now (table .entry)) (now (merges .entry)) (length (now (out .entry)))) ⌝ }
+        ≡ outcome (guided-answer kind n (now (table .entry)) (now (merges .entry)) (length (now (out .entry)))) ⌝ }
     ensures buffer { λ _. ⌜ now (out .exit)
-        ≡ written (guided-answer n (now (table .entry)) (now (merges .entry)) (length (now (out .entry))))
+        ≡ written (guided-answer kind n (now (table .entry)) (now (merges .entry)) (length (now (out .entry))))
         (now (out .entry)) ⌝ }
     ensures meaning { λ r. ⌜ Gives outcome
-        (GuidedMeans n (now (table .entry)) (now (merges .entry)) (length (now (out .entry)))) r
+        (GuidedMeans kind n (now (table .entry)) (now (merges .entry)) (length (now (out .entry)))) r
         (now (out .entry)) (now (out .exit)) ⌝ }
 {
-    let input = checks::judge_input(Kind::Counts, n, checks::numbers_due(n, 2, 1), merges.len());
+    let input = checks::judge_input(kind, n, checks::numbers_due(n, 2, 1), merges.len());
     let Outcome::Done = input else {
         return input;
     };
-    let judged = table_checks::judge_for_rows(n, table, out.len());
+    let judged = table_checks::judge_for_rows(kind, n, table, out.len());
     let Outcome::Done = judged else {
         return judged;
     };
-    guided_checked(n, 1, table, merges, out)
+    guided_checked(kind, n, table, merges, out)
 }

@@ -10,7 +10,7 @@ ghost use Prim.Native.Nat.{_+_, _*_, _<_, _≤_};
 ghost use lib.ListN.{getD, set};
 ghost use Rattle.limits.specs.Limits.{most-leaves};
 ghost use Rattle.eligible_pairs.specs.inner.Lent.{lent-table};
-ghost use Rattle.state_arrays.specs.inner.Fits.{scale-of, Given, SizesFit};
+ghost use Rattle.state_arrays.specs.inner.Fits.{counts-scale, Given, SizesFit};
 ghost use Rattle.leaf_merges.specs.inner.Partners.{Partner};
 ghost use Rattle.leaf_merges.specs.inner.LeafMerges.{LeavesMerged, AllMerged};
 
@@ -78,10 +78,10 @@ fn merge_leaf(
     t: usize,
     made: usize,
 ) -> usize
-    requires { ⌜ Given n (scale-of (now p)) (lent-table n (now table) (now packed)) (now p) × (0 < t) × (t < n)
-        × LeavesMerged n (scale-of (now p)) (lent-table n (now table) (now packed))
+    requires { ⌜ Given n (counts-scale (now p)) (lent-table n (now table) (now packed)) (now p) × (0 < t) × (t < n)
+        × LeavesMerged n (counts-scale (now p)) (lent-table n (now table) (now packed))
         (now label) (now m) (now sizes) (now names) (now rows) made (t + 1) ⌝ }
-    ensures { λ r. ⌜ LeavesMerged n (scale-of (now (p .entry)))
+    ensures { λ r. ⌜ LeavesMerged n (counts-scale (now (p .entry)))
         (lent-table n (now (table .entry)) (now (packed .entry)))
         (now (label .exit)) (now (m .exit)) (now (sizes .exit)) (now (names .exit)) (now (rows .exit)) r t ⌝ }
 {
@@ -97,7 +97,7 @@ fn merge_leaf(
 }
 
 // The subtree of every leaf from n - 1 down to 1 is merged as far as it may be, with a row for each merge. Leaf 0 is
-// left alone.
+// left alone. For the crates above.
 pub fn merge_leaves(
     n: usize,
     table: &[u32],
@@ -109,10 +109,11 @@ pub fn merge_leaves(
     rows: &mut [u16; 2 * MOST_LEAVES],
     p: &[u32; LEAF_COUNTS],
 )
-    requires { ⌜ Given n (scale-of (now p)) (lent-table n (now table) (now packed)) (now p)
-        × LeavesMerged n (scale-of (now p)) (lent-table n (now table) (now packed))
+    requires { ⌜ Given n (counts-scale (now p)) (lent-table n (now table) (now packed)) (now p)
+        × LeavesMerged n (counts-scale (now p)) (lent-table n (now table) (now packed))
         (now label) (now m) (now sizes) (now names) (now rows) 0 n ⌝ }
-    ensures { λ _. ⌜ AllMerged n (scale-of (now (p .entry))) (lent-table n (now (table .entry)) (now (packed .entry)))
+    ensures { λ _. ⌜ AllMerged n (counts-scale (now (p .entry)))
+        (lent-table n (now (table .entry)) (now (packed .entry)))
         (now (label .exit)) (now (m .exit)) (now (sizes .exit)) (now (names .exit)) (now (rows .exit)) ⌝ }
 {
     let mut r: usize = 0;

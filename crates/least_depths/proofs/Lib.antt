@@ -1,3 +1,4 @@
 mod LeastDepths
 mod Meeting
 pub mod RowCounts
+pub mod Rows

@@ -21,6 +21,7 @@ use Rattle.leaf_orders.proofs.LeafOrders.{place-in, leaf-at}
 use Rattle.leaf_orders.proofs.Planned as planned
 use Rattle.leaf_orders.proofs.Rows.{pairs-small}
 use Rattle.least_depths.specs.inner.Depths.{LeafOrder, LeastDepths, count-in, RowFound}
+use Rattle.least_depths.specs.inner.Rows.{TableRowFits}
 use Rattle.least_depths.proofs.Meeting.{Meets, meets}
 
 module _ (n : ℕ) (l : List ℕ) (count : IsLeafCount n) (keeps : KeepsRules n l) where
@@ -114,8 +115,12 @@ module _ (n : ℕ) (l : List ℕ) (count : IsLeafCount n) (keeps : KeepsRules n 
       pub cell-is : (j : ℕ) → j < n → quartets n T ((i * n + j) / n) ((i * n + j) % n) ≡ count-in base aboves tops j
       cell-is j lj = rw (row-of n i j lj, column-of n i j lj) (omega (arith, row-counts j lj))
 
-      pub row-found : RowFound n base aboves tops
+      row-found : RowFound n base aboves tops
       row-found = record {
         covered = λ j lj. omega (arith, row-counts j lj);
         fits = λ j lj. omega (arith, row-counts j lj, cell-limit n count T i j li lj);
       }
+
+      -- what the functions that write the row ask
+      pub row-fits : {room : ℕ} → n * n ≤ room → TableRowFits n i base aboves tops room
+      row-fits enough = record { few = count .1; row = li; enough = enough; found = row-found }

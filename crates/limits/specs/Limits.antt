@@ -1,7 +1,9 @@
 -- How many leaves a tree has (01, "Trees and listings"): n from 3 to 128. The upper limit is named here and only here,
 -- and beside it the sizes that follow from it. The code has the same names, in src/lib.rt: a size that differed there
 -- would leave functions unproved.
+use mathlib.Core.Bool.{cond}
 use Prim.Native.Nat.{ℕ, _+_, _-_, _*_, _/_, _≤_}
+use lib.Dec.{eqb}
 use Rattle.limits.specs.declared.Kind.{Kind}
 use Rattle.limits.specs.declared.Kind.the-variants.{Counts, Poll}
 
@@ -64,6 +66,19 @@ most-of Poll = most-polled
 abbrev pub IsCountOf : Kind → ℕ → Type 0
 IsCountOf kind n = (fewest-of kind ≤ n) × (n ≤ most-of kind)
 
--- the largest scale of a table: a poll's cells are sixths
+-- the scale of a table of this kind: a tree has it when each cell is so many times its own; a poll's are sixths
+abbrev pub scale-of : Kind → ℕ
+scale-of Counts = 1
+scale-of Poll = 6
+
+-- the largest scale
 abbrev pub most-scale : ℕ
-most-scale = 6
+most-scale = scale-of Poll
+
+-- the largest cell that a tree can have in a table of this kind: P(n − 2) for the most leaves, at its scale
+abbrev pub largest-cell-of : Kind → ℕ
+largest-cell-of kind = scale-of kind * ((most-of kind - 2) * (most-of kind - 3) / 2)
+
+-- the kind that a caller from C names: 0 for counts, any other number for a poll's
+unfoldable pub kind-of : ℕ → Kind
+kind-of poll = cond (eqb poll 0) Counts Poll

@@ -1,4 +1,8 @@
-// The limit on the number of leaves, and the sizes that follow from it. specs/Limits.antt has the same names.
+// The limit on the number of leaves, and the sizes that follow from it; and what kinds of tables there are, with their
+// scales. specs/Limits.antt has the same names.
+ghost use mathlib.Core.Path.{_≡_};
+ghost use Rattle.limits.specs.Limits.{scale-of, kind-of};
+
 pub const MOST_LEAVES: usize = 128;
 
 // The sizes that a set of leaves may have: 0 to the most leaves.
@@ -29,4 +33,24 @@ pub const MOST_POLL_CELLS: usize = MOST_POLLED * MOST_POLLED;
 pub enum Kind {
     Counts,
     Poll,
+}
+
+// The scale of a table of this kind: what a tree's count is multiplied by.
+pub fn scale_of(kind: Kind) -> u32
+    ensures { λ r. ⌜ r ≡ scale-of kind ⌝ }
+{
+    match kind {
+        Kind::Counts => 1,
+        Kind::Poll => 6,
+    }
+}
+
+// The kind that a caller from C names: 0 for counts, any other number for a poll's.
+pub fn kind_of(poll: u32) -> Kind
+    ensures { λ r. ⌜ r ≡ kind-of poll ⌝ }
+{
+    if poll == 0 {
+        return Kind::Counts;
+    }
+    Kind::Poll
 }

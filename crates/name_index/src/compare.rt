@@ -50,7 +50,7 @@ fn same_bytes(s: &[u8], a: usize, t: &[u8], b: usize, many: usize) -> bool
     true
 }
 
-// So many bytes of one text from a place on and of another are the same.
+// So many bytes of one text from a place on and of another are the same. For the crates above.
 pub fn same_parts(s: &[u8], a: usize, t: &[u8], b: usize, many: usize) -> bool
     requires { ⌜ (a + many ≤ length (now s)) × (b + many ≤ length (now t)) ⌝ }
     ensures { λ r. ⌜ r ≡ same (take many (drop a (now (s .entry)))) (take many (drop b (now (t .entry)))) ⌝ }

@@ -28,7 +28,7 @@ fn wide(x: u8) -> u64
     x as u64
 }
 
-// A hash, one byte later. The hash of no bytes is 0.
+// A hash, one byte later. The hash of no bytes is 0. For the crates above.
 pub fn hash_byte(h: u64, b: u8) -> u64
     requires { ⌜ h < hashes ⌝ }
     ensures { λ r. ⌜ (r ≡ hash-step h b) × (r < hashes) ⌝ }
@@ -55,7 +55,7 @@ fn is_name_at(sheet: &[u8], p: usize, text: &[u8], from: usize, many: usize) -> 
 }
 
 // The leaf among the first k whose name is so many bytes of a text from a place on; k where there is none. The hash is
-// that of these bytes.
+// that of these bytes. For the crates above.
 pub fn leaf_named(
     sheet: &[u8],
     k: usize,
@@ -104,7 +104,7 @@ fn link(
 }
 
 // Whether the name of leaf i, which starts at a place and has this hash, equals an earlier one. Where it does not, it
-// comes into the index.
+// comes into the index. For the crates above.
 pub fn repeats(
     sheet: &[u8],
     i: usize,

@@ -193,7 +193,7 @@ fn close(
     kept
 }
 
-// What a byte makes of what is kept, where so many brackets are open before it.
+// What a byte makes of what is kept, where so many brackets are open before it. For the crates above.
 pub fn bracket(
     b: u8,
     n: usize,

@@ -136,7 +136,7 @@ module _ {n m : ℕ} {rows chain others : List ℕ} {seen : ℕ → Bool} (z : 0
 
   -- each number is held once at most
   held-once : (x : ℕ) → copies x others + copies x chain + indicator (unseen n seen x) 1 ≤ 1
-  held-once x = omega (arith, W .each-once x, indicator-le (eqb x 0 || live x))
+  held-once x = omega (arith, W .each-once x, indicator-le (eqb x 0 || live x) 1)
 
   -- the next row's number is not in use
   new-unused : uses (unused n) n rows (n + m) ≡ false

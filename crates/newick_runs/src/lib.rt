@@ -69,7 +69,7 @@ fn skip_name(text: &[u8], k: usize, hash: u64) -> Run
     Run { to: j, hash: h }
 }
 
-// Where the run from byte k on ends, in this state.
+// Where the run from byte k on ends, in this state. For the crates above.
 pub fn run_on(text: &[u8], state: u8, k: usize, hash: u64) -> Run
     requires { ⌜ (k ≤ length (now text)) × (hash < hashes) ⌝ }
     ensures { λ r. ⌜ Ran state (now (text .entry)) k hash r ⌝ }

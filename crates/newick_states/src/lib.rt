@@ -169,7 +169,7 @@ pub fn next_state(state: u8, depth: usize, b: u8) -> u8
     moved(state, depth, b)
 }
 
-// How many brackets are open behind a byte that does not break the grammar.
+// How many brackets are open behind a byte that does not break the grammar. For the crates above.
 pub fn next_depth(depth: usize, b: u8) -> usize
     requires { ⌜ depth ≤ deepest ⌝ }
     ensures { λ r. ⌜ r ≡ next-depth depth b ⌝ }

@@ -71,7 +71,7 @@ fn judge_kept(n: usize, kept: Kept) -> Outcome
 }
 
 // Reads a text: 17, 18, 19, each over the whole text; or the rows of the tree that it draws, but those of the chain,
-// which comes with them.
+// which comes with them. For the crates above.
 pub fn read_text(
     sheet: &[u8],
     n: usize,

@@ -26,7 +26,7 @@ pub fn index_of_u32(x: u32) -> usize
     x as usize
 }
 
-// Each of n leaves gets its own number. For crates of the part.
+// Each of n leaves gets its own number. For the crates above.
 pub fn own_numbers(n: usize, numbers: &mut [u32])
     requires { ⌜ (n ≤ most-leaves) × (n ≤ length (now numbers)) ⌝ }
     ensures { λ _. ⌜ now (numbers .exit) ≡ filled n (λ k. k) (now (numbers .entry)) ⌝ }

@@ -14,14 +14,13 @@ ghost use mathlib.Core.Logic.{_↔_};
 ghost use mathlib.Core.Bool.{true};
 ghost use Prim.Native.Nat.{_-_, _*_, _≤_};
 ghost use lib.ListN.{length};
-ghost use Rattle.limits.specs.Limits.{most-leaves, IsLeafCount};
+ghost use Rattle.limits.specs.Limits.{most-leaves, IsLeafCount, scale-of};
 ghost use Rattle.refusals.specs.Refusals.{outcome, written};
 ghost use Rattle.refusals.specs.Meanings.{Gives};
 ghost use Rattle.trees.specs.Tables.{IsTable};
 ghost use Rattle.merging.specs.Rebuilds.{rebuilt};
 ghost use Rattle.rebuild_answers.specs.Operations.{rebuild-answer, packed-answer};
 ghost use Rattle.rebuild_answers.specs.Meanings.{RebuildMeans};
-ghost use Rattle.state_arrays.specs.inner.Fits.{IsScale};
 ghost use Rattle.eligible_pairs.specs.inner.Lent.{lent-table};
 ghost use Rattle.own_rebuild.specs.inner.OneSubtree.{OneSubtreeFits};
 
@@ -52,23 +51,24 @@ fn one_subtree_fits(
     true
 }
 
-// Our own rebuild of a table that has passed the checks placed before 6: the standard listing of the tree that has the
-// table at this scale, at the front of `out`; or 6, with `out` as it was. For the crates of the rebuilds.
+// Our own rebuild of a table of this kind that has passed the checks placed before 6: the standard listing of the tree
+// that has the table, at the front of `out`; or 6, with `out` as it was. For the crates of the rebuilds.
 pub fn rebuild_checked(
+    kind: Kind,
     n: usize,
-    scale: u32,
     table: &[u32],
     packed: &[u8],
     out: &mut [u16],
 ) -> Outcome
-    requires { ⌜ IsLeafCount n × IsScale scale × IsTable n (lent-table n (now table) (now packed))
+    requires { ⌜ IsLeafCount n × IsTable n (lent-table n (now table) (now packed))
         × (2 * (n - 2) ≤ length (now out)) ⌝ }
     ensures answer { λ r. ⌜ r
-        ≡ outcome (rebuilt n scale (lent-table n (now (table .entry)) (now (packed .entry)))) ⌝ }
+        ≡ outcome (rebuilt n (scale-of kind) (lent-table n (now (table .entry)) (now (packed .entry)))) ⌝ }
     ensures buffer { λ _. ⌜ now (out .exit)
-        ≡ written (rebuilt n scale (lent-table n (now (table .entry)) (now (packed .entry)))) (now (out .entry)) ⌝ }
+        ≡ written (rebuilt n (scale-of kind) (lent-table n (now (table .entry)) (now (packed .entry))))
+        (now (out .entry)) ⌝ }
 {
-    let p = scaled_counts(n, scale);
+    let p = scaled_counts(kind, n);
     let mut label: [u32; MOST_LEAVES] = [0; MOST_LEAVES];
     let mut m: [u32; MOST_LEAVES] = [0; MOST_LEAVES];
     let mut sizes: [usize; MOST_LEAVES] = [1; MOST_LEAVES];
@@ -95,19 +95,19 @@ pub fn rebuild_checked(
     Outcome::Done
 }
 
-// Our own rebuild: writes the standard listing of the tree that has the table at the front of `out`.
-pub fn rebuild(n: usize, table: &[u32], out: &mut [u16]) -> Outcome
-    ensures answer { λ r. ⌜ r ≡ outcome (rebuild-answer n (now (table .entry)) (length (now (out .entry)))) ⌝ }
+// Our own rebuild of a table of this kind: writes the standard listing of the tree that has it at the front of `out`.
+pub fn rebuild(kind: Kind, n: usize, table: &[u32], out: &mut [u16]) -> Outcome
+    ensures answer { λ r. ⌜ r ≡ outcome (rebuild-answer kind n (now (table .entry)) (length (now (out .entry)))) ⌝ }
     ensures buffer { λ _. ⌜ now (out .exit)
-        ≡ written (rebuild-answer n (now (table .entry)) (length (now (out .entry)))) (now (out .entry)) ⌝ }
-    ensures meaning { λ r. ⌜ Gives outcome (RebuildMeans n (now (table .entry)) (length (now (out .entry)))) r
+        ≡ written (rebuild-answer kind n (now (table .entry)) (length (now (out .entry)))) (now (out .entry)) ⌝ }
+    ensures meaning { λ r. ⌜ Gives outcome (RebuildMeans kind n (now (table .entry)) (length (now (out .entry)))) r
         (now (out .entry)) (now (out .exit)) ⌝ }
 {
-    let judged = table_checks::judge_for_rows(n, table, out.len());
+    let judged = table_checks::judge_for_rows(kind, n, table, out.len());
     let Outcome::Done = judged else {
         return judged;
     };
-    rebuild_checked(n, 1, table, b"", out)
+    rebuild_checked(kind, n, table, b"", out)
 }
 
 // How many bytes a packed table of n leaves has; 0 where no tree has n leaves.
@@ -138,5 +138,5 @@ pub fn rebuild_packed(n: usize, packed: &[u8], out: &mut [u16]) -> Outcome
         return judged;
     };
     let cells: [u32; 0] = [];
-    rebuild_checked(n, 1, &cells, packed, out)
+    rebuild_checked(Kind::Counts, n, &cells, packed, out)
 }

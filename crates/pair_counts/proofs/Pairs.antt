@@ -11,7 +11,9 @@ use Rattle.base.specs.Numbers.{indicator, count-below, sum-below, pair-sum}
 use Rattle.base.proofs.Bools.{bool?}
 use Rattle.base.proofs.Sums.{count-sum}
 use Rattle.base.proofs.Counts.{count-suc, count-imp, count-ext, count-or, count-false}
-use Rattle.limits.specs.Limits.{most-leaves, most-pairs, largest-cell}
+use Rattle.limits.specs.declared.Kind.{Kind}
+use Rattle.limits.specs.declared.Kind.the-variants.{Counts, Poll}
+use Rattle.limits.specs.Limits.{most-leaves, most-pairs, largest-cell, most-of, scale-of, largest-cell-of}
 use Rattle.pair_counts.specs.Pairs.{P, pairs-below}
 
 -- P(0) = P(1) = 0
@@ -74,9 +76,14 @@ pub P-most : P most-leaves ≡ most-pairs
 unfolding P
 P-most = refl
 
--- the scope's number
-largest-is : largest-cell ≡ 7875
-largest-is = refl
+pub P-largest-of : (kind : Kind) → scale-of kind * P (most-of kind - 2) ≡ largest-cell-of kind
+unfolding P
+P-largest-of Counts = refl
+P-largest-of Poll = refl
+
+-- the scope's number, and that of a poll's table
+largest-is : (largest-cell ≡ 7875) × (largest-cell-of Counts ≡ largest-cell) × (largest-cell-of Poll ≡ 2610)
+largest-is = (refl, refl, refl)
 
 pub pairs-suc : (n : ℕ) (f : ℕ → ℕ → Bool) → pairs-below (suc n) f ≡ pairs-below n f + count-below n (λ p. f p n)
 unfolding pairs-below

@@ -1,14 +1,13 @@
--- A poll in which every record has one tree's own pairing sums to that tree's table: `own-poll`.
--- For i < j a quartet adds 1 to cell (i, j) where i and j are two of its leaves, and the tree pairs them against the
--- other two. So the sum over all quartets is one over the other two leaves p < q, in each of the six orders that
--- i, j, p, q may have; and each p, q has just one of these.
-use mathlib.Core.Path.{_≡_, refl, sym, _∙_}
+-- A poll in which every record has one tree's own pairing sums to six times that tree's table: `own-poll`.
+-- For i < j a quartet adds six sixths to cell (i, j) where i and j are two of its leaves, and the tree pairs them
+-- against the other two. So the sum over all quartets is six times one over the other two leaves p < q, in each of the
+-- six orders that i, j, p, q may have; and each p, q has just one of these.
+use mathlib.Core.Path.{_≡_, refl, ap, sym, _∙_}
 use mathlib.Core.Logic.{_⊎_, inl, inr, _≢_}
-use mathlib.Core.Bool.{Bool, true, false, _&&_, _||_, or-comm, or-false, and-true, and-false}
+use mathlib.Core.Bool.{Bool, true, false, _&&_, _||_, or-comm, and-true, and-false}
 use mathlib.Core.List.{List, [], _∷_}
 use mathlib.Core.Option.{none}
-use Prim.Native.Nat.{ℕ, zero, suc, _+_, _*_, _/_, _%_, _<_}
-use native.Mathlib.Nat.{div-lt-iff-lt-mul, mod-lt}
+use Prim.Native.Nat.{ℕ, suc, _+_, _*_, _<_}
 use native.Mathlib.Omega.{arith}
 use native.Mathlib.Decide.{decLt}
 use borrow.Author.Tests.{ltb-true, eqb-true, ne-eqb}
@@ -16,33 +15,36 @@ use lib.Dec.{ltb, eqb}
 use lib.ListN.{length}
 use Rattle.base.specs.Numbers.{indicator}
 use Rattle.base.specs.Lists.{all-in}
-use Rattle.base.proofs.Bools.{bool?, never, is-false, or-none, and-both, and-is, eqb-same}
+use Rattle.base.proofs.Bools.{bool?, never, is-false, and-both, and-is, eqb-same}
 use Rattle.base.proofs.Counts.{indicator-or, indicator-none, indicator-when}
 use Rattle.base.proofs.Sums.{sum2, sum2-ext}
-use Rattle.base.proofs.Lists.{tab-same}
+use Rattle.limits.specs.declared.Kind.the-variants.{Poll}
+use Rattle.limits.specs.Limits.{scale-of}
 use Rattle.trees.specs.Trees.{Tree, IsTree}
 use Rattle.trees.specs.Quartets.{separates, paired, pairing, other, quartets}
-use Rattle.trees.specs.Tables.{table-of}
-use Rattle.trees.proofs.Quartets.{quartets-diagonal, quartets-ij}
+use Rattle.trees.specs.Tables.{cell, HasTable}
+use Rattle.trees.proofs.Quartets.{quartets-ij}
+use Rattle.trees.proofs.Tables.{HasCells, rule-cell, of-cells}
 use Rattle.trees.specs.Quartets.{Four}
 use Rattle.trees.proofs.Pairings.{exactly-one, one-pairing}
 use Rattle.refusals.specs.Refusals.{accepted}
-use Rattle.refusals.proofs.Answers.{judged-none, answered-accepted}
+use Rattle.refusals.proofs.Answers.{judged-none}
 use Rattle.poll_rules.specs.declared.Record.{Record}
 use Rattle.poll_rules.specs.declared.Quartet.{Quartet}
 use Rattle.poll_rules.specs.Records.{four, quartets-of, is-of, record-refusal, records-refusal-from, records-refusal}
 use Rattle.poll_rules.specs.Counts.{cell-of, beside, adds, poll-cell, poll-table}
 use Rattle.poll_laws.specs.OwnPairings.{is-own}
-use Rattle.poll_rules.specs.Operations.{poll-sizes-refusal, poll-refusal, poll-answer}
+use Rattle.poll_rules.specs.Operations.{poll-answer}
 use Rattle.poll_rules.specs.inner.Quartets.{Leaves}
-use Rattle.poll_rules.proofs.Counts.{of-four, adds-code, pairs-apart, poll-mirror}
+use Rattle.poll_rules.proofs.Counts.{of-four, adds-resolved, pairs-apart, poll-mirror}
 use Rattle.poll_rules.proofs.Records.{passes-of, same-leaves}
-use Rattle.poll_rules.proofs.Quartets.{quartets-count}
-use Rattle.poll_rules.proofs.Operations.{sizes-pass}
-use Rattle.poll_laws.proofs.FourSums.{sum2-six, sum4-ext, sum4-zero, pairs-two}
+use Rattle.poll_laws.proofs.FourSums.{sum2-six, sum4-ext, pairs-two}
 use Rattle.poll_laws.proofs.FourSums.{only-ab, only-ac, only-ad, only-bc, only-bd, only-cd, total, total-sum}
 use Rattle.poll_laws.proofs.FourSums.{rising, rising-lt, over, over-six}
 use Rattle.poll_laws.proofs.Orders.{orders, no-order, one-order}
+use Rattle.poll_laws.proofs.PairCells.{both-are, cell-rising}
+use Rattle.poll_laws.proofs.AcceptedPolls.{AcceptedPoll, accepted-poll}
+use Rattle.poll_laws.proofs.PollTables.{table-of-accepted}
 
 -- what just one of three tests says, as a sum over the three
 of-one :
@@ -62,33 +64,14 @@ paired-either : (T : Tree) (i j p q : ℕ) → paired T i j p q ≡ paired T p q
 unfolding paired separates
 paired-either T i j p q = simp or-comm
 
--- i is x and j is y
-both-are : (i j x y : ℕ) → (eqb i x && eqb j y) ≡ true → (i ≡ x) × (j ≡ y)
-both-are i j x y h = let r = and-both (eqb i x) (eqb j y) h in (eqb-true i x (r .0), eqb-true j y (r .1))
-
--- a pair x < y has the cell (i, j), i < j, where i is x and j is y
-cell-rising : (x y i j : ℕ) → x < y → i < j → cell-of x y i j ≡ (eqb i x && eqb j y)
-unfolding cell-of
-cell-rising x y i j l m = rw (other-way, or-false (eqb i x && eqb j y))
-  where
-    other-way : (eqb i y && eqb j x) ≡ false
-    other-way = is-false _ (λ h. let r = both-are i j y x h in omega arith)
-
--- no cell of a pair is on the diagonal
-cell-diagonal : (x y i : ℕ) → x < y → cell-of x y i i ≡ false
-unfolding cell-of
-cell-diagonal x y i l =
-    or-none _ _ (is-false _ (λ h. let r = both-are i i x y h in omega arith))
-    (is-false _ (λ h. let r = both-are i i y x h in omega arith))
-
--- What a quartet adds whose record has the tree's own pairing.
+-- The record of a quartet with the tree's own pairing, and whether that puts i beside j.
 own-record : Tree → Quartet → Record
 own-record T q = of-four (q .a) (q .b) (q .c) (q .d) (pairing T (q .a) (q .b) (q .c) (q .d))
 
-own-adds : Tree → (i j : ℕ) → Quartet → ℕ
-own-adds T i j q = adds (own-record T q) i j
+own-beside : Tree → (i j : ℕ) → Quartet → ℕ
+own-beside T i j q = indicator (beside (own-record T q .code) (own-record T q) i j) 1
 
--- so the poll's cell is the sum over the quartets
+-- so the poll's cell is six times the sum over the quartets
 same-record : (T : Tree) (q : Quartet) (r : Record) → is-of q r ≡ true → is-own T r ≡ true → r ≡ own-record T q
 unfolding is-own own-record
 same-record T q r h g =
@@ -96,11 +79,30 @@ same-record T q r h g =
     let code = eqb-true (r .code) (pairing T (r .a) (r .b) (r .c) (r .d)) g in
     rw (← e .0, ← e .1, ← e .2, ← e .3, ← code)
 
+-- a pairing is 0, 1 or 2
+pairing-lt : (T : Tree) (a b c d : ℕ) → pairing T a b c d < 3
+unfolding pairing
+pairing-lt T a b c d = elim (bool? (paired T a b c d)) [
+  | inl x ↦ rw x (omega arith)
+  | inr x ↦ elim (bool? (paired T a c b d)) [ inl y ↦ rw (x, y) (omega arith) | inr y ↦ rw (x, y) (omega arith) ]
+]
+
+six-times : (b : Bool) → indicator b (scale-of Poll) ≡ scale-of Poll * indicator b 1
+six-times true = refl
+six-times false = refl
+
+own-adds : (T : Tree) (i j : ℕ) (q : Quartet) → adds (own-record T q) i j ≡ scale-of Poll * own-beside T i j q
+unfolding own-beside own-record
+own-adds T i j q =
+    let r = own-record T q in
+    let few = pairing-lt T (q .a) (q .b) (q .c) (q .d) in
+    adds-resolved r (r .code) refl few i j ∙ six-times (beside (r .code) r i j)
+
 own-total :
     (T : Tree) (i j k : ℕ) (Q : List Quartet) (R : List Record) → length R ≡ length Q
     → records-refusal-from k Q R ≡ none
-    → all-in (is-own T) R ≡ true → poll-cell R i j ≡ total (own-adds T i j) Q
-unfolding records-refusal-from all-in poll-cell total own-adds
+    → all-in (is-own T) R ≡ true → poll-cell R i j ≡ scale-of Poll * total (own-beside T i j) Q
+unfolding records-refusal-from all-in poll-cell total
 own-total T i j k [] [] l h g = refl
 own-total T i j k [] (r ∷ R) l h g = absurd (omega arith)
 own-total T i j k (q ∷ Q) [] l h g = absurd (omega arith)
@@ -108,14 +110,15 @@ own-total T i j k (q ∷ Q) (r ∷ R) l h g =
     let x = judged-none (record-refusal k q r) (records-refusal-from (suc k) Q R ∷ []) h in
     let y = judged-none (records-refusal-from (suc k) Q R) [] (x .1) in
     let z = and-both (is-own T r) (all-in (is-own T) R) g in
-    rw (same-record T q r (passes-of k q r (x .0)) (z .0), own-total T i j (suc k) Q R (omega arith) (y .0) (z .1))
+    rw (same-record T q r (passes-of k q r (x .0)) (z .0))
+    (omega (arith, own-adds T i j q, own-total T i j (suc k) Q R (omega arith) (y .0) (z .1)))
 
--- it adds 1 to the cells of that pairing
+-- where that pairing is p
 own-pairing :
     (T : Tree) (i j a b c d p : ℕ) → pairing T a b c d ≡ p
-    → own-adds T i j (four a b c d) ≡ indicator (beside p (own-record T (four a b c d)) i j) 1
-unfolding own-adds own-record
-own-pairing T i j a b c d p e = adds-code (own-record T (four a b c d)) p e i j
+    → own-beside T i j (four a b c d) ≡ indicator (beside p (own-record T (four a b c d)) i j) 1
+unfolding own-beside own-record
+own-pairing T i j a b c d p e = ap (λ k. indicator (beside k (own-record T (four a b c d)) i j) 1) e
 
 -- four leaves that rise are four different leaves
 rising-four : (n a b c d : ℕ) → Leaves n a b c d → Four n a b c d
@@ -131,24 +134,6 @@ rising-four n a b c d l = record {
   bd = λ e. omega (arith, l .bc, l .cd);
   cd = λ e. omega (arith, l .cd);
 }
-
--- nothing is added on the diagonal
-pub code-diagonal :
-    (p : ℕ) (r : Record) (i : ℕ) → r .a < r .b → r .b < r .c → r .c < r .d → beside p r i i ≡ false
-unfolding beside
-code-diagonal zero r i ab bc cd = rw (cell-diagonal (r .a) (r .b) i ab, cell-diagonal (r .c) (r .d) i cd)
-code-diagonal (suc zero) r i ab bc cd =
-    rw (cell-diagonal (r .a) (r .c) i (omega arith), cell-diagonal (r .b) (r .d) i (omega arith))
-code-diagonal (suc (suc zero)) r i ab bc cd =
-    rw (cell-diagonal (r .a) (r .d) i (omega arith), cell-diagonal (r .b) (r .c) i bc)
-code-diagonal (suc (suc (suc p))) r i ab bc cd = refl
-
-own-diagonal : (T : Tree) (i a b c d : ℕ) → rising a b c d ≡ true → own-adds T i i (four a b c d) ≡ 0
-unfolding own-adds own-record
-own-diagonal T i a b c d h =
-    let r = own-record T (four a b c d) in
-    let l = rising-lt a b c d h in
-    adds-code r (r .code) refl i i ∙ rw (code-diagonal (r .code) r i (l .0) (l .1) (l .2))
 
 leaves-rise : (n a b c d : ℕ) → rising a b c d ≡ true → d < n → Leaves n a b c d
 leaves-rise n a b c d r l = let h = rising-lt a b c d r in record { ab = h .0; bc = h .1; cd = h .2; dn = l }
@@ -183,8 +168,7 @@ module _ (n : ℕ) (T : Tree) (t : IsTree n T) (i j : ℕ) (ij : i < j) (jn : j 
           hit z w x y,
           ← paired-either T x y z w,
           e,
-          indicator-or (cell-of x y i j) (cell-of z w i j)
-              (pairs-apart x y z w i j xz xw yz yw),
+          indicator-or (cell-of x y i j) (cell-of z w i j) 1 (pairs-apart x y z w i j xz xw yz yw),
           cell-rising x y i j xy ij,
           cell-rising z w i j zw ij,
         )
@@ -195,7 +179,7 @@ module _ (n : ℕ) (T : Tree) (t : IsTree n T) (i j : ℕ) (ij : i < j) (jn : j 
 
   own-either :
       (a b c d : ℕ) → Leaves n a b c d
-      → own-adds T i j (four a b c d) ≡ either a b c d + (either a c b d + either a d b c)
+      → own-beside T i j (four a b c d) ≡ either a b c d + (either a c b d + either a d b c)
   unfolding pairing beside own-record
   own-either a b c d l =
       let f = rising-four n a b c d l in
@@ -213,9 +197,9 @@ module _ (n : ℕ) (T : Tree) (t : IsTree n T) (i j : ℕ) (ij : i < j) (jn : j 
       (λ x y. own-pairing T i j a b c d 2 (rw (x, y))))
 
   -- over all that rise
-  own-over : total (own-adds T i j) (quartets-of n)
+  own-over : total (own-beside T i j) (quartets-of n)
       ≡ over n (λ a b c d. either a b c d + (either a c b d + either a d b c))
-  own-over = total-sum n (own-adds T i j) ∙ sum4-ext n _ _ (λ a b c d la lb lc ld.
+  own-over = total-sum n (own-beside T i j) ∙ sum4-ext n _ _ (λ a b c d la lb lc ld.
       indicator-when (rising a b c d) _ _ (λ r. own-either a b c d (leaves-rise n a b c d r ld)))
 
   miss : (x y : ℕ) → (x ≢ i) ⊎ (y ≢ j) → hits x y ≡ false
@@ -280,51 +264,34 @@ module _ (n : ℕ) (T : Tree) (t : IsTree n T) (i j : ℕ) (ij : i < j) (jn : j 
     ]
   ]
 
-  own-cell : total (own-adds T i j) (quartets-of n) ≡ quartets n T i j
+  own-cell : total (own-beside T i j) (quartets-of n) ≡ quartets n T i j
   unfolding quartets
   own-cell =
       own-over ∙ over-orders ∙ sum2-ext n _ _ (λ p q lp lq. orders-pass p q)
       ∙ rw (ne-eqb i j (λ e. omega arith)) (sym (pairs-two n (λ p q. (other i j p && other i j q) && paired T i j p q)))
 
--- every cell of an own poll is the tree's
-diagonal-total : (n : ℕ) (T : Tree) (i : ℕ) → total (own-adds T i i) (quartets-of n) ≡ 0
-diagonal-total n T i =
-    total-sum n (own-adds T i i)
-    ∙ sum4-zero n _ (λ a b c d.
-    indicator-when (rising a b c d) _ 0 (own-diagonal T i a b c d) ∙ indicator-none (rising a b c d))
-
--- A poll of n leaves whose records pass and have the own pairings of the tree T.
-module _ (n : ℕ) (T : Tree) (t : IsTree n T) (R : List Record) (due : length R ≡ length (quartets-of n))
-    (pass : records-refusal n R ≡ none) (own : all-in (is-own T) R ≡ true) where
-  as-total : (i j : ℕ) → poll-cell R i j ≡ total (own-adds T i j) (quartets-of n)
-  as-total i j = own-total T i j 0 (quartets-of n) R due (unfold records-refusal in pass) own
-
-  own-cells : (i j : ℕ) → i < n → j < n → poll-cell R i j ≡ quartets n T i j
-  own-cells i j hi hj = elim (decLt i j) [
-    | yes l ↦ as-total i j ∙ own-cell n T t i j l hj
-    | no g ↦ elim (decLt j i) [
-      | yes l ↦ poll-mirror R i j ∙ as-total j i ∙ own-cell n T t j i l hi ∙ quartets-ij n T j i
-      | no h ↦
-          let e : i ≡ j = omega arith in
-          rw e (as-total j j ∙ diagonal-total n T j ∙ sym (quartets-diagonal n T j))
-    ]
-  ]
-
-  own-table : 0 < n → poll-table n R ≡ table-of n T
-  unfolding poll-table table-of
-  own-table z =
-      tab-same (n * n) (λ k. poll-cell R (k / n) (k % n)) (λ k. quartets n T (k / n) (k % n)) (λ k l.
-      own-cells (k / n) (k % n) (div-lt-iff-lt-mul z .1 l) (mod-lt k z))
-
--- The law: where a poll is accepted and every record has the tree's own pairing, the sums are the tree's table.
+-- The law: where a poll is accepted and every record has the tree's own pairing, the tree has the poll's table: each
+-- cell is six times the tree's.
 pub own-poll :
     (n : ℕ) (R : List Record) (room : ℕ) (t : List ℕ) → poll-answer n R room ≡ accepted t → (T : Tree) → IsTree n T
-    → all-in (is-own T) R ≡ true → t ≡ table-of n T
-unfolding poll-answer poll-refusal
+    → all-in (is-own T) R ≡ true → HasTable n (scale-of Poll) t T
+unfolding poll-table
 own-poll n R room t h T tree own =
-    let answer = answered-accepted (poll-refusal n R room) (poll-table n R) t h in
-    let sizes = judged-none (poll-sizes-refusal n (length R) room) (records-refusal n R ∷ []) (answer .0) in
-    let records = judged-none (records-refusal n R) [] (sizes .1) in
-    let sized = sizes-pass n (length R) room (sizes .0) in
-    sym (answer .1)
-    ∙ own-table n T tree R (sized .due ∙ sym (quartets-count n)) (records .0) own (omega (arith, sized .fewest))
+    of-cells n (scale-of Poll) t T (table-of-accepted p) (λ i j hi hj d.
+    ap (λ z. cell n z i j) (sym (p .table)) ∙ rule-cell n (poll-cell R) i j hi hj ∙ each i j hi hj d)
+  where
+    p : AcceptedPoll n R t
+    p = accepted-poll n R room t h
+
+    rising-cell : (i j : ℕ) → i < j → j < n → poll-cell R i j ≡ scale-of Poll * quartets n T i j
+    rising-cell i j l m =
+        own-total T i j 0 (quartets-of n) R (p .due) (unfold records-refusal in p .passed) own
+        ∙ ap (λ z. scale-of Poll * z) (own-cell n T tree i j l m)
+
+    each : HasCells n (scale-of Poll) (poll-cell R) T
+    each i j hi hj d = elim (decLt i j) [
+      | yes l ↦ rising-cell i j l hj
+      | no g ↦
+          poll-mirror R i j ∙ rising-cell j i (omega arith) hi
+          ∙ ap (λ z. scale-of Poll * z) (quartets-ij n T j i)
+    ]

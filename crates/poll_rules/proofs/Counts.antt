@@ -1,90 +1,83 @@
--- What a record adds: worked cases, what each code says, that no cell gets more than 1, and that mirror cells get the
--- same; and so what several records add.
-use mathlib.Core.Path.{_≡_, refl, sym, ap, _∙_}
+-- What a record adds: that the shares of a code are six sixths, and that mirror cells get the same; and so what several
+-- records add. A poll of four leaves with each code is worked out in scope_cases/Cases.antt.
+use mathlib.Core.Path.{_≡_, refl, sym, _∙_}
 use mathlib.Core.Logic.{_⊎_, inl, inr, _≢_}
 use mathlib.Core.Bool.{Bool, true, false, _&&_, or-comm, and-comm}
 use mathlib.Core.List.{List, [], _∷_, _++_}
-use Prim.Native.Nat.{ℕ, zero, suc, _+_, _≤_}
+use Prim.Native.Nat.{ℕ, zero, suc, _+_, _*_, _≤_, _<_}
 use native.Mathlib.Omega.{arith}
+use native.Mathlib.Decide.{decLt}
 use borrow.Author.Tests.{eqb-true}
 use lib.Dec.{eqb}
-use lib.ListN.{length, getD}
+use lib.ListN.{length, List·getD-eq-default}
 use Rattle.base.specs.Numbers.{indicator}
-use Rattle.base.specs.Lists.{tab}
 use Rattle.base.proofs.Bools.{and-both, or-cases, is-false}
-use Rattle.base.proofs.Counts.{indicator-le}
+use Rattle.base.proofs.Counts.{indicator-le, indicator-none}
+use Rattle.limits.specs.declared.Kind.the-variants.{Poll}
+use Rattle.limits.specs.Limits.{scale-of}
 use Rattle.poll_rules.specs.declared.Record.{Record}
-use Rattle.poll_rules.specs.Counts.{cell-of, beside, shares, share, adds, poll-cell, poll-table}
+use Rattle.poll_rules.specs.Records.{last-code}
+use Rattle.poll_rules.specs.Counts.{cell-of, beside, shares, share, adds, poll-cell}
 
 abbrev pub of-four : (a b c d code : ℕ) → Record
 of-four a b c d code = record { a = a; b = b; c = c; d = d; code = code }
 
--- the one quartet of four leaves, with each code
-abbrev with-code : ℕ → List ℕ
-with-code code = poll-table 4 (of-four 0 1 2 3 code ∷ [])
-
-first-with-second : with-code 0 ≡ 0 ∷ 1 ∷ 0 ∷ 0 ∷ 1 ∷ 0 ∷ 0 ∷ 0 ∷ 0 ∷ 0 ∷ 0 ∷ 1 ∷ 0 ∷ 0 ∷ 1 ∷ 0 ∷ []
-unfolding poll-table poll-cell adds share shares beside cell-of tab
-first-with-second = refl
-
-first-with-third : with-code 1 ≡ 0 ∷ 0 ∷ 1 ∷ 0 ∷ 0 ∷ 0 ∷ 0 ∷ 1 ∷ 1 ∷ 0 ∷ 0 ∷ 0 ∷ 0 ∷ 1 ∷ 0 ∷ 0 ∷ []
-unfolding poll-table poll-cell adds share shares beside cell-of tab
-first-with-third = refl
-
-first-with-fourth : with-code 2 ≡ 0 ∷ 0 ∷ 0 ∷ 1 ∷ 0 ∷ 0 ∷ 1 ∷ 0 ∷ 0 ∷ 1 ∷ 0 ∷ 0 ∷ 1 ∷ 0 ∷ 0 ∷ 0 ∷ []
-unfolding poll-table poll-cell adds share shares beside cell-of tab
-first-with-fourth = refl
-
-unresolved : with-code 3 ≡ 0 ∷ 0 ∷ 0 ∷ 0 ∷ 0 ∷ 0 ∷ 0 ∷ 0 ∷ 0 ∷ 0 ∷ 0 ∷ 0 ∷ 0 ∷ 0 ∷ 0 ∷ 0 ∷ []
-unfolding poll-table poll-cell adds share shares beside cell-of tab
-unresolved = refl
-
--- no share adds nothing
-no-share : (b : Bool) → indicator b 0 ≡ 0
-no-share true = refl
-no-share false = refl
-
-shares-add :
-    (p : ℕ) (x y z : Bool)
-    → indicator x (share p 0) + (indicator y (share p 1) + indicator z (share p 2))
-    ≡ indicator (getD (x ∷ y ∷ z ∷ []) p false) 1
+-- the shares of a code are six sixths
+pub shares-six : (code : ℕ) → code ≤ last-code → share code 0 + (share code 1 + share code 2) ≡ scale-of Poll
 unfolding share shares
-shares-add zero x y z = omega (arith, no-share y, no-share z)
-shares-add (suc zero) x y z = omega (arith, no-share x, no-share z)
-shares-add (suc (suc zero)) x y z = omega (arith, no-share x, no-share y)
-shares-add (suc (suc (suc zero))) x y z = omega (arith, no-share x, no-share y, no-share z)
-shares-add (suc (suc (suc (suc p)))) x y z = omega (arith, no-share x, no-share y, no-share z)
+shares-six zero l = refl
+shares-six (suc zero) l = refl
+shares-six (suc (suc zero)) l = refl
+shares-six (suc (suc (suc zero))) l = refl
+shares-six (suc (suc (suc (suc zero)))) l = refl
+shares-six (suc (suc (suc (suc (suc zero))))) l = refl
+shares-six (suc (suc (suc (suc (suc (suc zero)))))) l = refl
+shares-six (suc (suc (suc (suc (suc (suc (suc code))))))) l = absurd (omega arith)
 
--- which pairing puts i beside j
-pairing-of : (p : ℕ) (r : Record) (i j : ℕ)
-    → getD (beside 0 r i j ∷ beside 1 r i j ∷ beside 2 r i j ∷ []) p false ≡ beside p r i j
-pairing-of zero r i j = refl
-pairing-of (suc zero) r i j = refl
-pairing-of (suc (suc zero)) r i j = refl
-pairing-of (suc (suc (suc p))) r i j = unfold beside in refl
+-- a code above 6 has none
+pub share-over : (code p : ℕ) → last-code < code → share code p ≡ 0
+unfolding share shares
+share-over code p l = rw (List·getD-eq-default shares [] {n = code} (omega arith))
 
--- a record adds 1 to the cells of its code
-pub adds-code : (r : Record) (p : ℕ) → r .code ≡ p → (i j : ℕ) → adds r i j ≡ indicator (beside p r i j) 1
+-- so there are no more than six sixths
+pub shares-le : (code : ℕ) → share code 0 + (share code 1 + share code 2) ≤ scale-of Poll
+shares-le code = elim (decLt last-code code) [
+  | yes l ↦ omega (arith, share-over code 0 l, share-over code 1 l, share-over code 2 l)
+  | no g ↦ omega (arith, shares-six code (omega arith))
+]
+
+-- a resolved record adds them to the cells of its pairing
+all-to-one :
+    (code : ℕ) (f : ℕ → Bool) → code < 3
+    → indicator (f 0) (share code 0) + (indicator (f 1) (share code 1) + indicator (f 2) (share code 2))
+    ≡ indicator (f code) (scale-of Poll)
+unfolding share shares
+all-to-one zero f l = omega (arith, indicator-none (f 1), indicator-none (f 2))
+all-to-one (suc zero) f l = omega (arith, indicator-none (f 0), indicator-none (f 2))
+all-to-one (suc (suc zero)) f l = omega (arith, indicator-none (f 0), indicator-none (f 1))
+all-to-one (suc (suc (suc code))) f l = absurd (omega arith)
+
+pub adds-resolved :
+    (r : Record) (p : ℕ) → r .code ≡ p → p < 3 → (i j : ℕ) → adds r i j ≡ indicator (beside p r i j) (scale-of Poll)
 unfolding adds
-adds-code r p e i j =
-    rw (← e)
-    (shares-add (r .code) (beside 0 r i j) (beside 1 r i j) (beside 2 r i j)
-    ∙ ap (λ b. indicator b 1) (pairing-of (r .code) r i j))
+adds-resolved r p e l i j = rw (← e) (all-to-one (r .code) (λ k. beside k r i j) (omega arith))
 
--- an unresolved one adds nothing
-no-pair : (p : ℕ) (r : Record) (i j : ℕ) → 3 ≤ p → beside p r i j ≡ false
-unfolding beside
-no-pair zero r i j h = absurd (omega arith)
-no-pair (suc zero) r i j h = absurd (omega arith)
-no-pair (suc (suc zero)) r i j h = absurd (omega arith)
-no-pair (suc (suc (suc p))) r i j h = refl
+-- a record adds nothing to a cell of no pairing
+pub adds-nothing : (r : Record) (i j : ℕ) → ((p : ℕ) → beside p r i j ≡ false) → adds r i j ≡ 0
+unfolding adds
+adds-nothing r i j h = rw (h 0, h 1, h 2)
 
-pub adds-unresolved : (r : Record) → 3 ≤ r .code → (i j : ℕ) → adds r i j ≡ 0
-adds-unresolved r h i j = adds-code r (r .code) refl i j ∙ rw (no-pair (r .code) r i j h)
-
--- no cell gets more than 1
-pub adds-le : (r : Record) (i j : ℕ) → adds r i j ≤ 1
-adds-le r i j = rw (adds-code r (r .code) refl i j) (indicator-le (beside (r .code) r i j))
+-- no cell gets more than six sixths
+pub adds-le : (r : Record) (i j : ℕ) → adds r i j ≤ scale-of Poll
+unfolding adds
+adds-le r i j =
+    omega (
+      arith,
+      indicator-le (beside 0 r i j) (share (r .code) 0),
+      indicator-le (beside 1 r i j) (share (r .code) 1),
+      indicator-le (beside 2 r i j) (share (r .code) 2),
+      shares-le (r .code),
+    )
 
 -- cell (i, j) of a pair: i is one of the two
 row-in : (x y i j : ℕ) → cell-of x y i j ≡ true → (i ≡ x) ⊎ (i ≡ y)
@@ -117,8 +110,8 @@ beside-mirror (suc (suc zero)) r i j = rw (cell-mirror (r .a) (r .d) i j, cell-m
 beside-mirror (suc (suc (suc p))) r i j = refl
 
 adds-mirror : (r : Record) (i j : ℕ) → adds r i j ≡ adds r j i
-adds-mirror r i j =
-    rw (adds-code r (r .code) refl i j, adds-code r (r .code) refl j i, beside-mirror (r .code) r i j)
+unfolding adds
+adds-mirror r i j = rw (beside-mirror 0 r i j, beside-mirror 1 r i j, beside-mirror 2 r i j)
 
 pub poll-mirror : (R : List Record) (i j : ℕ) → poll-cell R i j ≡ poll-cell R j i
 unfolding poll-cell
@@ -132,8 +125,8 @@ unfolding poll-cell
 poll-cell-snoc [] r i j = omega arith
 poll-cell-snoc (x ∷ R) r i j = omega (arith, poll-cell-snoc R r i j)
 
--- a cell is at most the number of records
-pub poll-cell-le : (R : List Record) (i j : ℕ) → poll-cell R i j ≤ length R
+-- a cell is at most six times the number of records
+pub poll-cell-le : (R : List Record) (i j : ℕ) → poll-cell R i j ≤ scale-of Poll * length R
 unfolding poll-cell
 poll-cell-le [] i j = omega arith
 poll-cell-le (x ∷ R) i j = omega (arith, poll-cell-le R i j, adds-le x i j)

@@ -133,7 +133,7 @@ pub quartets-from-first : (n : ℕ) → 4 ≤ n → quartets-from n (four 0 1 2 
 quartets-from-first n h = sym (all-on n 0 (omega arith)) ∙ (unfold left-all quartets-of in refl)
 
 -- q is the first of those that are left at q
-left-on :
+pub left-on :
     (n : ℕ) (q : Quartet) → q .d < n → quartets-from n q ≡ q ∷ quartets-from n (four (q .a) (q .b) (q .c) (q .d + 1))
 unfolding quartets-from
 left-on n q h = rw (three-on n (q .a) (q .b) (q .c) (q .d) h)
@@ -170,7 +170,7 @@ next-first n a b c d hd hc hb h =
         rw (three-end n a b c d hd, two-end n a b (c + 1) (omega arith), one-end n a (b + 1) (omega arith))
 
 -- what holds of the next quartet, by which leaf goes on
-next-by :
+pub next-by :
     (n : ℕ) (q : Quartet) (X : Quartet → Type 0) → (q .d + 1 < n → X (four (q .a) (q .b) (q .c) (q .d + 1)))
     → (n ≤ q .d + 1 → q .c + 2 < n → X (four (q .a) (q .b) (q .c + 1) (q .c + 2)))
     → (n ≤ q .d + 1 → n ≤ q .c + 2 → q .b + 3 < n → X (four (q .a) (q .b + 1) (q .b + 2) (q .b + 3)))

@@ -6,7 +6,8 @@ use mathlib.Core.Option.{Option, none, some}
 use Prim.Native.Nat.{ℕ, _-_, _*_, _≤_}
 use native.Mathlib.Nat.{mul-le-mul}
 use native.Mathlib.Omega.{arith}
-use borrow.Author.Tests.{eqb-true}
+use borrow.Author.Tests.{leb-true, eqb-true}
+use lib.Dec.{leb}
 use Rattle.base.proofs.Bools.{and-both}
 use Rattle.base.proofs.Lists.{none-not-some}
 use Rattle.limits.specs.Limits.{most-polled}
@@ -16,7 +17,7 @@ use Rattle.refusals.specs.Refusals.{judged}
 use Rattle.refusals.proofs.Answers.{judged-none, judged-stops, judged-passes, judged-alone}
 use Rattle.poll_rules.specs.declared.Record.{Record}
 use Rattle.poll_rules.specs.declared.Quartet.{Quartet}
-use Rattle.poll_rules.specs.Records.{records-due, is-of, record-refusal}
+use Rattle.poll_rules.specs.Records.{last-code, records-due, is-of, record-refusal}
 use Rattle.poll_rules.specs.Records.{record-leaves-refusal, record-code-refusal}
 use Rattle.poll_rules.specs.inner.Quartets.{record-of}
 
@@ -47,6 +48,13 @@ judged-two o p h = let r = judged-none o (p ∷ []) h in (r .0, judged-none p []
 pub passes-of : (k : ℕ) (q : Quartet) (r : Record) → record-refusal k q r ≡ none → is-of q r ≡ true
 unfolding record-refusal record-leaves-refusal
 passes-of k q r h = let both = judged-two _ _ h in test-passes (is-of q r) (cause.Record k) (cc)
+
+-- and a right code
+pub passes-code : (k : ℕ) (q : Quartet) (r : Record) → record-refusal k q r ≡ none → r .code ≤ last-code
+unfolding record-refusal record-code-refusal
+passes-code k q r h =
+    let both = judged-two _ _ h in
+    leb-true (r .code) last-code (test-passes (leb (r .code) last-code) (cause.PairingCode k) (cc))
 
 -- whose leaves are then its own
 pub same-leaves :

@@ -1,4 +1,4 @@
--- What a poll adds up to (01, "Polls"): what a record adds to a cell, and the poll's table.
+-- What a poll adds up to (01, "Polls"; 02, 2): what a record adds to a cell, in sixths, and the poll's table.
 use mathlib.Core.Bool.{Bool, false, _&&_, _||_}
 use mathlib.Core.List.{List, [], _∷_}
 use Prim.Native.Nat.{ℕ, zero, suc, _+_, _*_, _/_, _%_}
@@ -20,9 +20,18 @@ beside (suc zero) r i j = cell-of (r .a) (r .c) i j || cell-of (r .b) (r .d) i j
 beside (suc (suc zero)) r i j = cell-of (r .a) (r .d) i j || cell-of (r .b) (r .c) i j
 beside (suc (suc (suc p))) r i j = false
 
--- what each code gives to the pairings 0, 1 and 2: 1 to its own, and none where it is unresolved
+-- what the codes 0 to 6 give to the pairings 0, 1 and 2, in sixths: 0, 1 and 2 give all to one, 3 a third to each, and
+-- 4, 5 and 6 half to each of two
 unfoldable pub shares : List (List ℕ)
-shares = (1 ∷ 0 ∷ 0 ∷ []) ∷ (0 ∷ 1 ∷ 0 ∷ []) ∷ (0 ∷ 0 ∷ 1 ∷ []) ∷ (0 ∷ 0 ∷ 0 ∷ []) ∷ []
+shares =
+    (6 ∷ 0 ∷ 0 ∷ [])
+    ∷ (0 ∷ 6 ∷ 0 ∷ [])
+    ∷ (0 ∷ 0 ∷ 6 ∷ [])
+    ∷ (2 ∷ 2 ∷ 2 ∷ [])
+    ∷ (3 ∷ 3 ∷ 0 ∷ [])
+    ∷ (3 ∷ 0 ∷ 3 ∷ [])
+    ∷ (0 ∷ 3 ∷ 3 ∷ [])
+    ∷ []
 
 -- the share of pairing p in a record with this code
 unfoldable pub share : (code p : ℕ) → ℕ

@@ -13,9 +13,10 @@ use Rattle.refusals.specs.Refusals.{judged}
 use Rattle.poll_rules.specs.declared.Record.{Record}
 use Rattle.poll_rules.specs.declared.Quartet.{Quartet}
 
--- the highest pairing code: 0, 1 and 2 are the pairings, 3 is unresolved
+-- the highest pairing code: 0, 1 and 2 are the pairings; 3 allows all three, 4 the pairings 0 and 1, 5 the pairings 0
+-- and 2, 6 the pairings 1 and 2 (02, 2)
 abbrev pub last-code : ℕ
-last-code = 3
+last-code = 6
 
 -- i, i + 1, .., n − 1
 unfoldable pub from : ℕ → ℕ → List ℕ
@@ -50,7 +51,7 @@ is-of q r = eqb (r .a) (q .a) && (eqb (r .b) (q .b) && (eqb (r .c) (q .c) && eqb
 unfoldable pub record-leaves-refusal : ℕ → Quartet → Record → Option Refusal
 record-leaves-refusal k q r = cond (is-of q r) none (some (cause.Record k))
 
--- 11: the pairing code of record k is above 3
+-- 11: the pairing code of record k is above 6
 unfoldable pub record-code-refusal : ℕ → Record → Option Refusal
 record-code-refusal k r = cond (leb (r .code) last-code) none (some (cause.PairingCode k))
 

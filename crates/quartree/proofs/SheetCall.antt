@@ -20,13 +20,13 @@ module _ (S : List ℕ) (room : ℕ) where
   abbrev t : List ℕ
   t = table-with n (cells-of S)
 
-  pub zero-exactly-when : (number-alone (sheet-bytes-answer S room) ≡ 0) ↔ (SheetPasses S room × HasTree n t)
+  pub zero-exactly-when : (number-alone (sheet-bytes-answer S room) ≡ 0) ↔ (SheetPasses S room × HasTree n 1 t)
   zero-exactly-when =
       let zero = number-alone-zero (sheet-bytes-answer S room) in
       let tree = sheet-accepted-exactly-when S room in
       (λ h. tree .0 (zero .0 h), λ h. zero .1 (tree .1 h))
 
-  pub six-exactly-when : (number-alone (sheet-bytes-answer S room) ≡ 6) ↔ (SheetPasses S room × HasNoTree n t)
+  pub six-exactly-when : (number-alone (sheet-bytes-answer S room) ≡ 6) ↔ (SheetPasses S room × HasNoTree n 1 t)
   six-exactly-when =
       let six = number-alone-six (sheet-bytes-answer S room) in
       let no-tree = sheet-refused-exactly-when S room in

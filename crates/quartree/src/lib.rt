@@ -1,14 +1,17 @@
 // The C interface (include/quartree.h): one thin entry for each public operation.
+use limits::kind_of;
 ghost use mathlib.Core.Path.{_≡_};
 ghost use Prim.Native.Nat.{_+_, _*_};
 ghost use lib.ListN.{length};
+ghost use Rattle.limits.specs.Limits.{kind-of};
 ghost use Rattle.refusals.specs.Refusals.{written};
 ghost use Rattle.refusals.specs.Meanings.{Gives};
 ghost use Rattle.listings.specs.Operations.{check-answer};
 ghost use Rattle.standard_listings.specs.Operations.{standardise-answer};
 ghost use Rattle.splits.specs.Operations.{splits-answer};
 ghost use Rattle.pairings.specs.Operations.{lent-pairing-answer};
-ghost use Rattle.tree_tables.specs.Operations.{table-answer, gap-answer};
+ghost use Rattle.tree_tables.specs.Operations.{table-answer};
+ghost use Rattle.gaps.specs.Operations.{gap-answer};
 ghost use Rattle.rebuild_answers.specs.Operations.{rebuild-answer, guided-answer};
 ghost use Rattle.rebuild_answers.specs.Meanings.{RebuildMeans, GuidedMeans};
 ghost use Rattle.sheet_rules.specs.Sheets.{leaves-of, offset-of, name-start, name};
@@ -70,46 +73,55 @@ pub extern "C" fn quartree_table(n: usize, listing: &[u16], out: &mut [u32]) -> 
 
 // The gap between a table and the tree that a listing stands for: 1, 2, 3, 7, 8, 4, 5.
 #[no_mangle]
-pub extern "C" fn quartree_gap(n: usize, cells: &[u32], listing: &[u16], out: &mut [i64]) -> u64
-    ensures answer { λ r. ⌜ r
-        ≡ reply (gap-answer n (now (cells .entry)) (now (listing .entry)) (length (now (out .entry)))) ⌝ }
-    ensures buffer { λ r. ⌜ now (out .exit)
-        ≡ written (gap-answer n (now (cells .entry)) (now (listing .entry)) (length (now (out .entry))))
+pub extern "C" fn quartree_gap(
+    n: usize,
+    poll: u32,
+    cells: &[u32],
+    listing: &[u16],
+    out: &mut [i64],
+) -> u64
+    ensures answer { λ r. ⌜ r ≡ reply
+        (gap-answer (kind-of poll) n (now (cells .entry)) (now (listing .entry)) (length (now (out .entry)))) ⌝ }
+    ensures buffer { λ r. ⌜ now (out .exit) ≡ written
+        (gap-answer (kind-of poll) n (now (cells .entry)) (now (listing .entry)) (length (now (out .entry))))
         (now (out .entry)) ⌝ }
 {
-    replies::reply_of(tree_tables::gap(n, cells, listing, out))
+    replies::reply_of(gaps::gap(kind_of(poll), n, cells, listing, out))
 }
 
 // Our own rebuild: 1, 2, 3, 4, 5, 6.
 #[no_mangle]
-pub extern "C" fn quartree_rebuild(n: usize, cells: &[u32], out: &mut [u16]) -> u64
-    ensures answer { λ r. ⌜ r ≡ reply (rebuild-answer n (now (cells .entry)) (length (now (out .entry)))) ⌝ }
-    ensures buffer { λ r. ⌜ now (out .exit)
-        ≡ written (rebuild-answer n (now (cells .entry)) (length (now (out .entry)))) (now (out .entry)) ⌝ }
-    ensures meaning { λ r. ⌜ Gives reply (RebuildMeans n (now (cells .entry)) (length (now (out .entry)))) r
+pub extern "C" fn quartree_rebuild(n: usize, poll: u32, cells: &[u32], out: &mut [u16]) -> u64
+    ensures answer { λ r. ⌜ r
+        ≡ reply (rebuild-answer (kind-of poll) n (now (cells .entry)) (length (now (out .entry)))) ⌝ }
+    ensures buffer { λ r. ⌜ now (out .exit) ≡ written
+        (rebuild-answer (kind-of poll) n (now (cells .entry)) (length (now (out .entry)))) (now (out .entry)) ⌝ }
+    ensures meaning { λ r. ⌜ Gives reply
+        (RebuildMeans (kind-of poll) n (now (cells .entry)) (length (now (out .entry)))) r
         (now (out .entry)) (now (out .exit)) ⌝ }
 {
-    replies::reply_of(own_rebuild::rebuild(n, cells, out))
+    replies::reply_of(own_rebuild::rebuild(kind_of(poll), n, cells, out))
 }
 
 // The guided rebuild: 1, 2, 3, 4, 5, 12.
 #[no_mangle]
 pub extern "C" fn quartree_rebuild_guided(
     n: usize,
+    poll: u32,
     cells: &[u32],
     merges: &[u16],
     out: &mut [u16],
 ) -> u64
-    ensures answer { λ r. ⌜ r
-        ≡ reply (guided-answer n (now (cells .entry)) (now (merges .entry)) (length (now (out .entry)))) ⌝ }
-    ensures buffer { λ r. ⌜ now (out .exit)
-        ≡ written (guided-answer n (now (cells .entry)) (now (merges .entry)) (length (now (out .entry))))
+    ensures answer { λ r. ⌜ r ≡ reply
+        (guided-answer (kind-of poll) n (now (cells .entry)) (now (merges .entry)) (length (now (out .entry)))) ⌝ }
+    ensures buffer { λ r. ⌜ now (out .exit) ≡ written
+        (guided-answer (kind-of poll) n (now (cells .entry)) (now (merges .entry)) (length (now (out .entry))))
         (now (out .entry)) ⌝ }
     ensures meaning { λ r. ⌜ Gives reply
-        (GuidedMeans n (now (cells .entry)) (now (merges .entry)) (length (now (out .entry)))) r
+        (GuidedMeans (kind-of poll) n (now (cells .entry)) (now (merges .entry)) (length (now (out .entry)))) r
         (now (out .entry)) (now (out .exit)) ⌝ }
 {
-    replies::reply_of(guided_rebuild::rebuild_guided(n, cells, merges, out))
+    replies::reply_of(guided_rebuild::rebuild_guided(kind_of(poll), n, cells, merges, out))
 }
 
 // Whether a sheet keeps the rules, and its leaf count as the figure: 13, 1, 14, 15, 16.

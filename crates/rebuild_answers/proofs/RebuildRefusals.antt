@@ -7,6 +7,7 @@ use Prim.Native.Nat.{ℕ, _-_, _*_, _/_, _≤_}
 use native.Mathlib.Omega.{arith}
 use lib.ListN.{length}
 use Rattle.base.proofs.Lists.{length-tab}
+use Rattle.limits.specs.declared.Kind.{Kind}
 use Rattle.limits.specs.declared.Kind.the-variants.{Counts}
 use Rattle.limits.specs.Limits.{IsLeafCount}
 use Rattle.refusals.proofs.Answers.{judged-none}
@@ -31,16 +32,16 @@ module _ (n : ℕ) (B : List ℕ) (room : ℕ) where
   unfolding packed-refusal
   none-refused c e l = sizes-pass Counts n _ _ _ room (record { count = c; long = e; enough = l })
 
-module _ (n : ℕ) (t p : List ℕ) (room : ℕ) where
+module _ (kind : Kind) (n : ℕ) (t p : List ℕ) (room : ℕ) where
   -- the sizes are right, and nothing of the table is refused
   pub guided-sizes :
-      guided-refusal n t p room ≡ none
-      → (length p ≡ 2 * (n - 1)) × (table-refusal n t (2 * (n - 2)) room ≡ none)
+      guided-refusal kind n t p room ≡ none
+      → (length p ≡ 2 * (n - 1)) × (table-refusal kind n t (2 * (n - 2)) room ≡ none)
   unfolding guided-refusal
   guided-sizes h =
-      let a = judged-none (input-refusal Counts n (2 * (n - 1)) (length p)) _ h in
-      let b = judged-none (table-refusal n t (2 * (n - 2)) room) _ (a .1) in
-      (input-right Counts n (2 * (n - 1)) (length p) (a .0) .1, b .0)
+      let a = judged-none (input-refusal kind n (2 * (n - 1)) (length p)) _ h in
+      let b = judged-none (table-refusal kind n t (2 * (n - 2)) room) _ (a .1) in
+      (input-right kind n (2 * (n - 1)) (length p) (a .0) .1, b .0)
 
 -- as many proposals as there are merges
 pub many-proposals : (n : ℕ) (l : List ℕ) → length l ≡ 2 * (n - 1) → length (proposals l) ≡ n - 1

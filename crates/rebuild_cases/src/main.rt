@@ -1,6 +1,7 @@
 // Runs both rebuilds on P7's table and on tables and merges like it.
 use case_lines::say;
 use case_lines::say_listing;
+use limits::Kind;
 use refusals::Outcome;
 
 // P7's table.
@@ -35,7 +36,7 @@ const FIVE: [u32; 25] = [
 // A table of five leaves by our own rebuild.
 fn rebuild(words: &[u8], cells: &[u32]) {
     let mut listing = [9u16; 6];
-    let answer: Outcome = own_rebuild::rebuild(5, cells, &mut listing);
+    let answer: Outcome = own_rebuild::rebuild(Kind::Counts, 5, cells, &mut listing);
     say(words, answer);
     say_listing(&listing);
 }
@@ -52,7 +53,13 @@ fn rebuilt() {
 // A table of five leaves guided by these merges.
 fn guide(words: &[u8], cells: &[u32], merges: &[u16]) {
     let mut listing = [9u16; 6];
-    let answer: Outcome = guided_rebuild::rebuild_guided(5, cells, merges, &mut listing);
+    let answer: Outcome = guided_rebuild::rebuild_guided(
+        Kind::Counts,
+        5,
+        cells,
+        merges,
+        &mut listing,
+    );
     say(words, answer);
     say_listing(&listing);
 }

@@ -3,7 +3,7 @@ ghost use Rattle.refusals.specs.Refusals.{number-of};
 
 // The causes of refusal, in the order of their numbers. A figure counts from 0.
 pub enum Refusal {
-    // 1: the leaf count is outside 3 to 128 (of a poll, 4 to 32)
+    // 1: the leaf count is outside 3 to 128 (of a poll and of its table, 4 to 32)
     LeafCount,
     // 2: a lent input is not exactly as long as the count needs
     InputLength,
@@ -23,7 +23,7 @@ pub enum Refusal {
     Question(usize),
     // 10: this record's leaves are not those due there
     Record(usize),
-    // 11: this record's pairing code is above 3
+    // 11: this record's pairing code is above 6
     PairingCode(usize),
     // 12: this step's proposal names a leaf >= n, one subtree twice, or an ineligible pair
     Proposal(usize),

@@ -8,6 +8,7 @@ use lib.ListN.{length, getD, take, drop, length-append}
 use lib.Seq.{take-suc, append-snoc, take-append-seam}
 use Rattle.base.specs.Lists.{tab, filled}
 use Rattle.base.proofs.Lists.{length-flat, flat-more}
+use Rattle.limits.specs.declared.Kind.the-variants.{Counts}
 use Rattle.limits.specs.Limits.{most-numbers}
 use Rattle.refusals.specs.declared.Refusal.{Refusal}
 use Rattle.refusals.specs.declared.Outcome.the-variants.{Done, Refused}
@@ -116,6 +117,6 @@ module _ (S : List ℕ) (room : ℕ) (h : sheet-refusal S (4 * (leaves-of S - 2)
       go (accepted l) e =
           let n = leaves-of S in
           let t = table-with n (cells-of S) in
-          let kept = rebuilt-is-standard n t most-numbers l (rebuilt-alone S most-numbers fits ∙ e) .0 in
+          let kept = rebuilt-is-standard Counts n t most-numbers l (rebuilt-alone S most-numbers fits ∙ e) .0 in
           let many : 4 * (n - 2) ≡ 2 * length l = omega (arith, kept .numbers) in
           rw (bytes-of-tree, e, many) (front-bytes l cells out)

@@ -92,7 +92,7 @@ module _ (S : List ℕ) where
   tree-means : (due room : ℕ) → sheet-refusal S due room ≡ none → SheetTreeMeans S (sheet-tree S)
   unfolding sheet-tree
   tree-means due room h =
-      meaning.rebuilt-means n (accepted-here S due room h .count) t (sheet-is-table n (cells-of S))
+      meaning.rebuilt-means n (accepted-here S due room h .count) 1 (omega arith) t (sheet-is-table n (cells-of S))
 
   module _ (room : ℕ) where
     abbrev due : ℕ
@@ -129,39 +129,39 @@ module _ (S : List ℕ) where
 
     -- The call is accepted exactly when the sheet is, the room is enough, and some tree has the table.
     pub sheet-accepted-exactly-when :
-        ((b : List ℕ) × (sheet-bytes-answer S room ≡ accepted b)) ↔ (SheetPasses × HasTree n t)
+        ((b : List ℕ) × (sheet-bytes-answer S room ≡ accepted b)) ↔ (SheetPasses × HasTree n 1 t)
     sheet-accepted-exactly-when = (
       λ e.
           let a = told (e .0) (e .1) in
           let l = in-bytes-accepted (sheet-tree S) (e .0) (a .1) in
-          (passes (a .0), meaning.meant-accepted n t (tree-means due room (a .0)) .0 (l .0, l .1)),
+          (passes (a .0), meaning.meant-accepted n 1 t (tree-means due room (a .0)) .0 (l .0, l .1)),
       λ e.
           let h = passed (e .0) in
-          let l = meaning.meant-accepted n t (tree-means due room h) .1 (e .1) in
+          let l = meaning.meant-accepted n 1 t (tree-means due room h) .1 (e .1) in
           (flatMap (low-first 2) (l .0), answer h ∙ accepted-bytes (sheet-tree S) (l .0) (l .1)),
     )
 
     -- It is refused with 6 exactly when the sheet is accepted, the room is enough, and no tree has the table.
     pub sheet-refused-exactly-when :
-        (sheet-bytes-answer S room ≡ refused NoTree) ↔ (SheetPasses × HasNoTree n t)
+        (sheet-bytes-answer S room ≡ refused NoTree) ↔ (SheetPasses × HasNoTree n 1 t)
     sheet-refused-exactly-when = (
       λ e.
           let a = told-six e in
-          (passes (a .0), meaning.meant-refused n t (tree-means due room (a .0)) .0 (a .1)),
+          (passes (a .0), meaning.meant-refused n 1 t (tree-means due room (a .0)) .0 (a .1)),
       λ e.
           let h = passed (e .0) in
-          let six = meaning.meant-refused n t (tree-means due room h) .1 (e .1) in
+          let six = meaning.meant-refused n 1 t (tree-means due room h) .1 (e .1) in
           answer h ∙ refused-bytes (sheet-tree S) NoTree six,
     )
 
     -- The bytes are those of the standard listing of the only tree that has the table, low byte first.
     pub sheet-only-tree :
         (b : List ℕ) → sheet-bytes-answer S room ≡ accepted b
-        → (l : List ℕ) × OnlyTree n t l × (b ≡ flatMap (low-first 2) l)
+        → (l : List ℕ) × OnlyTree n 1 t l × (b ≡ flatMap (low-first 2) l)
     sheet-only-tree b e =
         let a = told b e in
         let l = in-bytes-accepted (sheet-tree S) b (a .1) in
-        (l .0, meaning.meant-only n t (tree-means due room (a .0)) (l .0) (l .1), l .2)
+        (l .0, meaning.meant-only n 1 t (tree-means due room (a .0)) (l .0) (l .1), l .2)
 
     -- Every finished list of eligible merges ends in one tree with that listing; where 6 is said, each leaves several.
     pub sheet-any-order :
@@ -172,7 +172,8 @@ module _ (S : List ℕ) where
         let a = told b e in
         let l = in-bytes-accepted (sheet-tree S) b (a .1) in
         let count = accepted-here S due room (a .0) .count in
-        let r = meaning.accepted-any-order n count t (sheet-is-table n (cells-of S)) (l .0) (l .1) L f in
+        let table = sheet-is-table n (cells-of S) in
+        let r = meaning.accepted-any-order n count 1 (omega arith) t table (l .0) (l .1) L f in
         (r .0, ap (flatMap (low-first 2)) (r .1) ∙ sym (l .2))
 
     pub sheet-refused-any-order :
@@ -181,7 +182,7 @@ module _ (S : List ℕ) where
     sheet-refused-any-order e =
         let a = told-six e in
         let count = accepted-here S due room (a .0) .count in
-        meaning.refused-any-order n count t (sheet-is-table n (cells-of S)) (a .1)
+        meaning.refused-any-order n count 1 (omega arith) t (sheet-is-table n (cells-of S)) (a .1)
 
     -- what the answer means, and that this fixes it
     pub sheet-bytes-meaning : SheetBytesMean S room (sheet-bytes-answer S room)
@@ -191,7 +192,7 @@ module _ (S : List ℕ) where
 
     pub sheet-bytes-fixed : {a b : Answer (List ℕ)} → SheetBytesMean S room a → SheetBytesMean S room b → a ≡ b
     sheet-bytes-fixed = unless-fixed (InBytes (SheetTreeMeans S)) (λ a b m m′.
-        m .its-bytes ∙ ap in-bytes (meaning.table-fixed n t (m .means) (m′ .means)) ∙ sym (m′ .its-bytes))
+        m .its-bytes ∙ ap in-bytes (meaning.table-fixed n 1 t (m .means) (m′ .means)) ∙ sym (m′ .its-bytes))
 
     -- so a call that gives this answer gives one with this meaning
     pub sheet-bytes-gives :

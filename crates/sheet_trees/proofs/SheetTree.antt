@@ -6,6 +6,7 @@ use mathlib.Core.List.{List, _∷_}
 use Prim.Native.Nat.{ℕ, _+_, _-_, _*_, _≤_}
 use native.Mathlib.Omega.{arith}
 use lib.ListN.{length, take, drop}
+use Rattle.limits.specs.declared.Kind.the-variants.{Counts}
 use Rattle.limits.specs.Limits.{IsLeafCount}
 use Rattle.refusals.specs.declared.Refusal.{Refusal}
 use Rattle.refusals.specs.Refusals.{judged}
@@ -45,12 +46,12 @@ module _ (S : List ℕ) (due room : ℕ) (h : sheet-refusal S due room ≡ none)
 -- our own rebuild of it
 pub rebuilt-alone :
     (S : List ℕ) (room : ℕ) → sheet-refusal S (2 * (leaves-of S - 2)) room ≡ none
-    → rebuild-answer (leaves-of S) (table-with (leaves-of S) (cells-of S)) room ≡ sheet-tree S
+    → rebuild-answer Counts (leaves-of S) (table-with (leaves-of S) (cells-of S)) room ≡ sheet-tree S
 unfolding rebuild-answer sheet-tree
 rebuilt-alone S room h =
     let n = leaves-of S in
     let a = accepted-here S (2 * (n - 2)) room h in
-    unless-passed _ _ (table-passes n _ _ room (a .count) (sheet-is-table n (cells-of S)) (a .room-enough))
+    unless-passed _ _ (table-passes Counts n _ _ room (a .count) (sheet-is-table n (cells-of S)) (a .room-enough))
 
 -- and where it stands, in the bytes from the offset to the trailer
 pub rebuilt-in-place :

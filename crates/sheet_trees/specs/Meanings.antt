@@ -11,9 +11,9 @@ use Rattle.sheet_rules.specs.Operations.{sheet-refusal}
 use Rattle.packed_tables.specs.Packed.{table-with}
 use Rattle.sheet_trees.specs.Operations.{in-bytes}
 
--- the standard listing of the only tree that has the sheet's table, or 6 where none has it
+-- the standard listing of the only tree that has the sheet's table, or 6 where none has it; a sheet's cells are counts
 abbrev pub SheetTreeMeans : List ℕ → Answer (List ℕ) → Type 0
-SheetTreeMeans S = TableMeans (leaves-of S) (table-with (leaves-of S) (cells-of S))
+SheetTreeMeans S = TableMeans (leaves-of S) 1 (table-with (leaves-of S) (cells-of S))
 
 -- an answer in bytes: an answer that means M, each number of its listing in two bytes, low byte first
 pub record InBytes (M : Answer (List ℕ) → Type 0) (b : Answer (List ℕ)) : Type 0 where

@@ -15,7 +15,9 @@ use Rattle.base.specs.Lists.{filled}
 use Rattle.base.proofs.Bools.{bool?, never, is-false, or-left, or-right, or-none, or-neither, eqb-same}
 use Rattle.base.proofs.Counts.{count-le}
 use Rattle.base.proofs.Filling.{length-filled, getD-filled}
-use Rattle.limits.specs.Limits.{most-leaves, IsLeafCount}
+use Rattle.limits.specs.declared.Kind.{Kind}
+use Rattle.limits.specs.Limits.{most-leaves, IsLeafCount, scale-of}
+use Rattle.limits.proofs.TableKinds.{scale-bounds}
 use Rattle.pair_counts.specs.Pairs.{P}
 use Rattle.pair_counts.proofs.Pairs.{P-mono}
 use Rattle.trees.specs.Trees.{Tree, leaves, size, least, join}
@@ -26,7 +28,7 @@ use Rattle.merging.proofs.States.{WellFormed, step-in, step-out, step-m-left, s
 use Rattle.merging.proofs.States.{two-fit}
 use Rattle.merging.specs.inner.Runs.{Eligible, Runs}
 use Rattle.merging.proofs.Values.{m-pairs}
-use Rattle.state_arrays.specs.inner.Fits.{IsScale, ScaledCounts, scale-of, Given, SmallSums, SubtreesFit}
+use Rattle.state_arrays.specs.inner.Fits.{ScaledCounts, counts-scale, Given, SmallSums, SubtreesFit}
 use Rattle.state_arrays.specs.inner.Fits.{SizesFit, TwoLabels}
 use Rattle.state_arrays.specs.inner.Merged.{relabelled, label-at, m-at, MergeReady}
 use Rattle.state_arrays.specs.inner.Merged as Merged
@@ -35,12 +37,12 @@ use Rattle.state_arrays.proofs.Fits.{both-fit}
 
 -- what a rebuild is given, as it is made: pair counts have their scale at two leaves
 pub counts-given :
-    (n s : ℕ) (t p : List ℕ) → IsLeafCount n → IsScale s → IsTable n t → ScaledCounts n s p
-    → (scale-of p ≡ s) × Given n (scale-of p) t p
+    (kind : Kind) (n : ℕ) (t p : List ℕ) → IsLeafCount n → IsTable n t → ScaledCounts n (scale-of kind) p
+    → (counts-scale p ≡ scale-of kind) × Given n (counts-scale p) t p
 unfolding P
-counts-given n s t p count scale is-table counts =
-    let e : getD p 2 0 ≡ s = counts 2 (omega (arith, count)) ∙ mul-one s in
-    (e, rw e (record { leaf-count = count; is-table = is-table; scaled = scale; pair-counts = counts }))
+counts-given kind n t p count is-table counts =
+    let e : getD p 2 0 ≡ scale-of kind = counts 2 (omega (arith, count)) ∙ mul-one (scale-of kind) in
+    (e, rw e (record { leaf-count = count; is-table = is-table; scaled = scale-bounds kind; pair-counts = counts }))
 
 -- The labels after a merge, and what m grows by.
 relabel-other : (l a b : ℕ) → l ≢ b → relabelled l a b ≡ l

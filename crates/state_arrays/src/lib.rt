@@ -1,19 +1,22 @@
 // The arrays of a rebuild: each leaf has a label, the least leaf of its subtree, and its number m; a label has the
 // number of leaves of its subtree. How they start, and what a merge makes of them. For the crates of the rebuilds.
+use limits::Kind;
 use limits::LEAF_COUNTS;
 use limits::MOST_LEAVES;
 ghost use mathlib.Core.Path.{_≡_};
 ghost use Prim.Native.Nat.{_≤_};
 ghost use lib.ListN.{length};
-ghost use Rattle.limits.specs.Limits.{most-leaves, most-scale};
+ghost use Rattle.limits.specs.Limits.{most-leaves, scale-of};
 ghost use Rattle.state_arrays.specs.inner.Fits.{ScaledCounts, largest-sum, SmallSums};
 ghost use Rattle.state_arrays.specs.inner.Merged.{relabelled, growth, Gathered, MergeReady, Merged};
 
-// The pair counts of up to n leaves at this scale: entry k is scale * P(k).
-pub fn scaled_counts(n: usize, scale: u32) -> [u32; LEAF_COUNTS]
-    requires { ⌜ (n ≤ most-leaves) × (scale ≤ most-scale) ⌝ }
-    ensures { λ r. ⌜ ScaledCounts n scale r ⌝ }
+// The pair counts of up to n leaves at the scale of this kind of table: entry k is the scale times P(k). For the crates
+// above.
+pub fn scaled_counts(kind: Kind, n: usize) -> [u32; LEAF_COUNTS]
+    requires { ⌜ n ≤ most-leaves ⌝ }
+    ensures { λ r. ⌜ ScaledCounts n (scale-of kind) r ⌝ }
 {
+    let scale = limits::scale_of(kind);
     let mut p = pair_counts::pair_counts();
     let mut k: usize = 0;
     while k <= n {
@@ -69,7 +72,7 @@ fn gather(
     }
 }
 
-// The subtree `b` becomes a part of the subtree `a`.
+// The subtree `b` becomes a part of the subtree `a`. For the crates above.
 pub fn merge(
     n: usize,
     label: &mut [u32; MOST_LEAVES],

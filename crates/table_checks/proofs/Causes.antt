@@ -8,8 +8,9 @@ use native.Mathlib.Omega.{arith}
 use lib.ListN.{length}
 use Rattle.base.specs.Lists.{tab, in-rows}
 use Rattle.base.proofs.Lists.{length-tab, getD-tab, find-place}
-use Rattle.limits.specs.declared.Kind.the-variants.{Counts}
+use Rattle.limits.specs.declared.Kind.{Kind}
 use Rattle.limits.specs.Limits.{IsLeafCount}
+use Rattle.limits.proofs.TableKinds.{leaf-count-of}
 use Rattle.refusals.specs.declared.Refusal.{Refusal}
 use Rattle.refusals.specs.declared.Refusal.the-variants.{LeafCount as Count, InputLength, OutputRoom, Diagonal, Halves}
 use Rattle.refusals.proofs.Causes.{Arises, arises-judged, arises-last}
@@ -53,12 +54,14 @@ module _ (P : Refusal → Type 0) (n : ℕ) (t : List ℕ) (w : CellCauses P n) 
           unfold cells-refusal in rw (e, f, cells-refusal) (w .halves k (p .0) (p .1) (low .0) (low .1))
       go none e none f = unfold cells-refusal in rw (e, f, cells-refusal) tt
 
-  pub table-arises : P Count → P InputLength → P OutputRoom → (due room : ℕ) → Arises P (table-refusal n t due room)
+  pub table-arises :
+      P Count → P InputLength → P OutputRoom → (kind : Kind) (due room : ℕ) → Arises P (table-refusal kind n t due room)
   unfolding table-refusal
-  table-arises count input output due room =
-      arises-judged P (sizes-refusal Counts n (n * n) (length t) due room) _
-      (sizes-arise P Counts n (n * n) (length t) due room count input output)
-      (λ a. arises-last P (cells-refusal n t) (cells-arise (sizes-right Counts n _ _ due room a .count)))
+  table-arises count input output kind due room =
+      arises-judged P (sizes-refusal kind n (n * n) (length t) due room) _
+      (sizes-arise P kind n (n * n) (length t) due room count input output)
+      (λ a. arises-last P (cells-refusal n t)
+      (cells-arise (leaf-count-of kind n (sizes-right kind n _ _ due room a .count))))
 
 -- so the leaves of 5 are below the leaf count
 pub halves-below :

@@ -1,4 +1,5 @@
 // What is judged of a lent table.
+use limits::Kind;
 use refusals::Outcome;
 use refusals::Refusal;
 ghost use mathlib.Core.Path.{_≡_};
@@ -78,11 +79,11 @@ fn wrong(n: usize, cells: &[u32]) -> Outcome
     unequal(n, cells)
 }
 
-// All that is judged of a table of n leaves, with room for a result of `due` numbers: 1, 2, 3, 4, 5.
-pub fn judge(n: usize, cells: &[u32], due: usize, room: usize) -> Outcome
-    ensures { λ r. ⌜ r ≡ outcome-of (table-refusal n (now (cells .entry)) due room) ⌝ }
+// All that is judged of a table of this kind of n leaves, with room for a result of `due` numbers: 1, 2, 3, 4, 5.
+pub fn judge(kind: Kind, n: usize, cells: &[u32], due: usize, room: usize) -> Outcome
+    ensures { λ r. ⌜ r ≡ outcome-of (table-refusal kind n (now (cells .entry)) due room) ⌝ }
 {
-    let sizes = checks::judge_table_sizes(n, cells.len(), due, room);
+    let sizes = checks::judge_table_sizes(kind, n, cells.len(), due, room);
     let Outcome::Done = sizes else {
         return sizes;
     };
@@ -90,8 +91,8 @@ pub fn judge(n: usize, cells: &[u32], due: usize, room: usize) -> Outcome
 }
 
 // The same with room for a listing.
-pub fn judge_for_rows(n: usize, cells: &[u32], room: usize) -> Outcome
-    ensures { λ r. ⌜ r ≡ outcome-of (table-refusal n (now (cells .entry)) (2 * (n - 2)) room) ⌝ }
+pub fn judge_for_rows(kind: Kind, n: usize, cells: &[u32], room: usize) -> Outcome
+    ensures { λ r. ⌜ r ≡ outcome-of (table-refusal kind n (now (cells .entry)) (2 * (n - 2)) room) ⌝ }
 {
-    judge(n, cells, checks::listing_numbers(n), room)
+    judge(kind, n, cells, checks::listing_numbers(n), room)
 }

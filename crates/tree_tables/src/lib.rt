@@ -1,12 +1,59 @@
-// The count table of a tree, and the gap between a table and a tree. Both are written row by row.
-use limits::Kind;
+// The count table of a tree, written row by row.
+use leaf_orders::leaf_order;
+use least_depths::count_at;
+use least_depths::find_row;
+use limits::MOST_LEAVES;
+use limits::MOST_NODES;
 use refusals::Outcome;
 ghost use mathlib.Core.Path.{_≡_};
-ghost use lib.ListN.{length};
-ghost use Rattle.refusals.specs.Refusals.{outcome-of, outcome, written};
-ghost use Rattle.tree_tables.specs.Operations.{table-answer, gap-refusal, gap-answer};
+ghost use mathlib.Core.List.{_++_};
+ghost use Prim.Native.Nat.{_*_, _≤_};
+ghost use lib.ListN.{length, drop};
+ghost use Rattle.limits.specs.Limits.{IsLeafCount};
+ghost use Rattle.refusals.specs.Refusals.{outcome, written};
+ghost use Rattle.trees.specs.Listings.{KeepsRules, tree-of};
+ghost use Rattle.trees.specs.Tables.{table-of};
+ghost use Rattle.least_depths.specs.inner.Depths.{count-in};
+ghost use Rattle.least_depths.specs.inner.Rows.{TableRowFits, RowWritten};
+ghost use Rattle.tree_tables.specs.Operations.{table-answer};
 
-mod fills;
+// Row i of the table, where the rows before it are written.
+fn write_row(
+    n: usize,
+    i: usize,
+    base: u32,
+    aboves: &[u32; MOST_NODES],
+    tops: &[u32; MOST_LEAVES],
+    out: &mut [u32],
+)
+    requires { ⌜ TableRowFits n i base (now aboves) (now tops) (length (now out)) ⌝ }
+    ensures { λ _. ⌜ RowWritten n i (λ j. count-in base (now (aboves .entry)) (now (tops .entry)) j)
+        (now (out .entry)) (now (out .exit)) n ⌝ }
+{
+    let mut j: usize = 0;
+    while j < n {
+        out[i * n + j] = count_at(base, aboves, tops, j);
+        j += 1;
+    }
+}
+
+// The table of the tree that a listing stands for.
+fn fill_table(n: usize, listing: &[u16], out: &mut [u32])
+    requires { ⌜ IsLeafCount n × KeepsRules n (now listing) × (n * n ≤ length (now out)) ⌝ }
+    ensures { λ _. ⌜ now (out .exit)
+        ≡ table-of n (tree-of n (now (listing .entry))) ++ drop (n * n) (now (out .entry)) ⌝ }
+{
+    let mut places = [0usize; MOST_NODES];
+    let mut aboves = [0u32; MOST_NODES];
+    let mut order = [0usize; MOST_LEAVES];
+    let mut depth = [0u32; MOST_LEAVES];
+    let mut tops = [0u32; MOST_LEAVES];
+    leaf_order(n, listing, &mut places, &mut aboves, &mut order, &mut depth);
+    for i in 0..n {
+        let base = find_row(n, &places, &aboves, &order, &depth, i, &mut tops);
+        write_row(n, i, base, &aboves, &tops, out);
+    }
+}
 
 // Writes the table of the tree that a listing stands for at the front of `out`.
 pub fn table(n: usize, listing: &[u16], out: &mut [u32]) -> Outcome
@@ -18,38 +65,6 @@ pub fn table(n: usize, listing: &[u16], out: &mut [u32]) -> Outcome
     let Outcome::Done = judged else {
         return judged;
     };
-    fills::fill_table(n, listing, out);
-    judged
-}
-
-// Judges a table and a listing, and the room for a gap at each cell: 1, 2, 3, 7, 8, 4, 5. Where the cells are judged
-// the sizes are right, so that only 4 and 5 are left to arise.
-fn judge_gap(n: usize, cells: &[u32], listing: &[u16], room: usize) -> Outcome
-    ensures { λ r. ⌜ r ≡ outcome-of (gap-refusal n (now (cells .entry)) (now (listing .entry)) room) ⌝ }
-{
-    let sizes = checks::judge_input(Kind::Counts, n, checks::table_cells(n), cells.len());
-    let Outcome::Done = sizes else {
-        return sizes;
-    };
-    let listed = listings::judge_for_cells(n, listing, room);
-    let Outcome::Done = listed else {
-        return listed;
-    };
-    table_checks::judge(n, cells, 0, 0)
-}
-
-// Writes the gap between a table and the tree that a listing stands for at the front of `out`.
-pub fn gap(n: usize, cells: &[u32], listing: &[u16], out: &mut [i64]) -> Outcome
-    ensures answer { λ r. ⌜ r
-        ≡ outcome (gap-answer n (now (cells .entry)) (now (listing .entry)) (length (now (out .entry)))) ⌝ }
-    ensures buffer { λ r. ⌜ now (out .exit)
-        ≡ written (gap-answer n (now (cells .entry)) (now (listing .entry)) (length (now (out .entry))))
-        (now (out .entry)) ⌝ }
-{
-    let judged = judge_gap(n, cells, listing, out.len());
-    let Outcome::Done = judged else {
-        return judged;
-    };
-    fills::fill_gap(n, 1, cells, listing, out);
+    fill_table(n, listing, out);
     judged
 }

@@ -6,7 +6,7 @@ use native.Mathlib.Omega.{arith}
 use borrow.Author.Needs.{needs}
 use borrow.Author.Tests.{not-true, not-false}
 use Rattle.merging.specs.Merging.{start}
-use Rattle.state_arrays.specs.inner.Fits.{scale-of, Given}
+use Rattle.state_arrays.specs.inner.Fits.{counts-scale, Given}
 use Rattle.guided_rebuild.specs.inner.Proposals.{StepsAccepted}
 use Rattle.guided_rebuild.proofs.Proposals.{steps-end, step-refused, step-accepted}
 use Rattle.guided_rebuild.proofs.accepted_steps.Statement.{statement}
@@ -14,10 +14,10 @@ use Rattle.guided_rebuild.proofs.accepted_steps.Tie as tie
 
 abbrev Inv-loop : tie.InvT-loop
 Inv-loop n table merges label₀ m₀ sizes₀ p steps k₀ label m sizes k =
-    Given n (scale-of p) table p
+    Given n (counts-scale p) table p
     × (steps ≡ n - 1)
     × (k ≤ steps)
-    × StepsAccepted n (scale-of p) table merges label m sizes k
+    × StepsAccepted n (counts-scale p) table merges label m sizes k
 
 abbrev μ-loop : tie.MeasureT-loop
 μ-loop n table merges label₀ m₀ sizes₀ p steps k₀ label m sizes k = steps - k

@@ -1,24 +1,25 @@
 -- `guided_rebuild::guided_checked` meets its contract: a proposal is refused, or our own rebuild has the same result.
 use mathlib.Core.Path.{_≡_}
 use borrow.Author.Needs.{needs}
+use Rattle.limits.specs.Limits.{scale-of}
 use Rattle.refusals.specs.Refusals.{outcome, written}
 use Rattle.merging.specs.inner.Runs.{halt}
-use Rattle.state_arrays.specs.inner.Fits.{scale-of, Given}
+use Rattle.state_arrays.specs.inner.Fits.{counts-scale, Given}
 use Rattle.state_arrays.proofs.StateArrays.{counts-given, holds-start}
 use Rattle.eligible_pairs.proofs.Lent.{no-bytes}
 use Rattle.guided_rebuild.proofs.Proposals.{guided-at, guided-whole}
 use Rattle.guided_rebuild.proofs.guided_checked.Statement.{statement}
 use Rattle.guided_rebuild.proofs.guided_checked.Tie as tie
 
--- what the proposals are tried on, at the scale that is asked for
+-- what the proposals are tried on, at the scale of the table
 given :
     (c : tie.After-scaled-counts)
     → let a = c .before .before .before .before .args in
     let p = c .scaled-counts .result in
-    (scale-of p ≡ a .scale) × Given (a .n) (scale-of p) (a .table .now) p
+    (counts-scale p ≡ scale-of (a .kind)) × Given (a .n) (counts-scale p) (a .table .now) p
 given c =
     let s = c .before .before .before .before in
-    counts-given _ (s .args .scale) _ _ (s .pre .0) (s .pre .1) (s .pre .2) (c .scaled-counts .ensures)
+    counts-given (s .args .kind) _ _ _ (s .pre .0) (s .pre .1) (c .scaled-counts .ensures)
 
 accepted-steps-requires : tie.Need-accepted-steps-requires
 accepted-steps-requires c κs =
@@ -26,7 +27,7 @@ accepted-steps-requires c κs =
     let counted = labelled .before .before in
     let s = counted .before .before .before .before in (
       given counted .1,
-      s .pre .4,
+      s .pre .3,
       record { came = halt; holds = holds-start (s .args .n) (s .pre .0 .1) (labelled .own-numbers .ensures) },
     )
 
@@ -45,7 +46,7 @@ returns c =
 rebuild-checked-requires : tie.Need-rebuild-checked-requires
 rebuild-checked-requires c κs =
     let s = counted (c .before .before .before) .before .before .before .before in
-    (s .pre .0, s .pre .1, rw (no-bytes (s .args .n) (s .args .table .now)) (s .pre .2), s .pre .3)
+    (s .pre .0, rw (no-bytes (s .args .n) (s .args .table .now)) (s .pre .1), s .pre .2)
 
 returns-2 : tie.Need-returns-2
 returns-2 c =
@@ -54,7 +55,7 @@ returns-2 c =
     let g = given (counted tried) in
     let s = counted tried .before .before .before .before in
     let whole =
-    guided-whole (tried .accepted-steps .ensures) (s .pre .0) (g .1 .scaled .0) (s .pre .2) (s .pre .4)
+    guided-whole (tried .accepted-steps .ensures) (s .pre .0) (g .1 .scaled .0) (s .pre .1) (s .pre .3)
     (passed .if1 .left) in
     let e = rw (g .0) at whole in
     rw e (rw (no-bytes (s .args .n) (s .args .table .now)) at (c .before .before .rebuild-checked .ensures))

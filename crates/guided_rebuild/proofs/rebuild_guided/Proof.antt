@@ -3,14 +3,12 @@
 use mathlib.Core.Path.{_≡_, ap, _∙_}
 use mathlib.Core.Option.{none}
 use Prim.Native.Nat.{_-_, _*_}
-use native.Mathlib.Omega.{arith}
 use borrow.Author.Needs.{needs}
 use lib.ListN.{length}
-use Rattle.limits.specs.declared.Kind.the-variants.{Counts}
 use Rattle.refusals.specs.Refusals.{outcome-of, outcome}
 use Rattle.refusals.proofs.Answers.{go-stops, go-passes, call-passed, unless-told, unless-none}
 use Rattle.checks.specs.Sizes.{input-refusal}
-use Rattle.checks.proofs.Sizes.{input-due}
+use Rattle.checks.proofs.Sizes.{input-as-due}
 use Rattle.table_checks.proofs.TableRefusal.{accepted-table}
 use Rattle.rebuild_answers.specs.Operations.{guided-refusal, guided-answer}
 use Rattle.rebuild_answers.proofs.RebuildRefusals.{guided-sizes}
@@ -25,23 +23,23 @@ enum-told c = search needs
 sized :
     (c : tie.After-judge-input)
     → let a = c .before .before .before .before .before .args in
-    c .judge-input .result ≡ outcome-of (input-refusal Counts (a .n) (2 * (a .n - 1)) (length (a .merges .now)))
+    c .judge-input .result ≡ outcome-of (input-refusal (a .kind) (a .n) (2 * (a .n - 1)) (length (a .merges .now)))
 sized c =
     c .judge-input .ensures
-    ∙ ap outcome-of (input-due Counts _ _ _ _ (c .before .numbers-due .ensures))
+    ∙ ap outcome-of (input-as-due _ _ _ _ _ (c .before .numbers-due .ensures))
 
 returns : tie.Need-returns
 unfolding guided-answer guided-refusal
 returns c =
     let h = c .enum-told2 .given .1 in
-    guided-gives _ _ _ _ outcome (unless-told _ _ _ _ _ (go-stops _ (sized (c .before .before)) _ h) h)
+    guided-gives _ _ _ _ _ outcome (unless-told _ _ _ _ _ (go-stops _ (sized (c .before .before)) _ h) h)
 
 -- and of the table
 judged :
     (c : tie.After-judge-for-rows)
     → let a = c .before .before .before .before .before .before .before .before .args in
     c .judge-for-rows .result
-    ≡ outcome-of (guided-refusal (a .n) (a .table .now) (a .merges .now) (length (a .out .now)))
+    ≡ outcome-of (guided-refusal (a .kind) (a .n) (a .table .now) (a .merges .now) (length (a .out .now)))
 unfolding guided-refusal
 judged c =
     let told = c .before in
@@ -50,26 +48,26 @@ judged c =
 returns-2 : tie.Need-returns-2
 unfolding guided-answer
 returns-2 c =
-    guided-gives _ _ _ _ outcome (unless-told _ _ _ _ _ (judged (c .before .before)) (c .enum-told4 .given .1))
+    guided-gives _ _ _ _ _ outcome (unless-told _ _ _ _ _ (judged (c .before .before)) (c .enum-told4 .given .1))
 
 -- nothing was refused
 passed :
     (c : tie.After-enum-told3)
     → let a = c .before .before .before .before .before .before .before .before .before .before .args in
-    guided-refusal (a .n) (a .table .now) (a .merges .now) (length (a .out .now)) ≡ none
+    guided-refusal (a .kind) (a .n) (a .table .now) (a .merges .now) (length (a .out .now)) ≡ none
 passed c = call-passed _ (judged (c .before .before)) (c .enum-told3 .given .1)
 
 guided-checked-requires : tie.Need-guided-checked-requires
 guided-checked-requires c κs =
-    let sizes = guided-sizes _ _ _ _ (passed (c .before)) in
-    let a = accepted-table _ _ _ _ (sizes .1) in
-    (a .count, (omega arith, omega arith), a .is-table, a .room-enough, sizes .0)
+    let sizes = guided-sizes _ _ _ _ _ (passed (c .before)) in
+    let a = accepted-table _ _ _ _ _ (sizes .1) in
+    (a .count, a .is-table, a .room-enough, sizes .0)
 
 returns-3 : tie.Need-returns-3
 unfolding guided-answer
 returns-3 c =
     let put = c .before .before in
-    guided-gives _ _ _ _ outcome (unless-none _ _ _ _ _ (passed (put .before .before)) (put .guided-checked .ensures))
+    guided-gives _ _ _ _ _ outcome (unless-none _ _ _ _ _ (passed (put .before .before)) (put .guided-checked .ensures))
 
 pub rebuild-guided-spec : {M : Type 1} → statement M
 rebuild-guided-spec =

@@ -3,7 +3,7 @@
 use Prim.Native.Nat.{_-_, _<_}
 use native.Mathlib.Omega.{arith}
 use Rattle.eligible_pairs.specs.inner.Lent.{lent-table}
-use Rattle.state_arrays.specs.inner.Fits.{scale-of, Given}
+use Rattle.state_arrays.specs.inner.Fits.{counts-scale, Given}
 use Rattle.leaf_merges.specs.inner.Partners.{Partner}
 use Rattle.leaf_merges.specs.inner.LeafMerges.{MergingLeaf}
 use Rattle.leaf_merges.proofs.LeafMerges.{begin, own-label, leaf-merge-sizes-fit, merges, leaf-merge-room}
@@ -13,9 +13,9 @@ use Rattle.leaf_merges.proofs.merge_leaf.Tie as tie
 
 abbrev Inv-loop : tie.InvT-loop
 Inv-loop n table packed label₀ m₀ sizes₀ names₀ rows₀ p t made r₀ k₀ label m sizes names rows r k =
-    Given n (scale-of p) (lent-table n table packed) p
+    Given n (counts-scale p) (lent-table n table packed) p
     × (t < n)
-    × MergingLeaf n (scale-of p) (lent-table n table packed) label m sizes names rows r t
+    × MergingLeaf n (counts-scale p) (lent-table n table packed) label m sizes names rows r t
     × Partner n (lent-table n table packed) label m sizes p t k
 
 abbrev μ-loop : tie.MeasureT-loop

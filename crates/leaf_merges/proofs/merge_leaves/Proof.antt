@@ -5,14 +5,14 @@ use Prim.Native.Nat.{_+_, _-_, _≤_}
 use native.Mathlib.Omega.{arith}
 use borrow.Author.Needs.{needs}
 use Rattle.eligible_pairs.specs.inner.Lent.{lent-table}
-use Rattle.state_arrays.specs.inner.Fits.{scale-of}
+use Rattle.state_arrays.specs.inner.Fits.{counts-scale}
 use Rattle.leaf_merges.specs.inner.LeafMerges.{LeavesMerged}
 use Rattle.leaf_merges.proofs.merge_leaves.Statement.{statement}
 use Rattle.leaf_merges.proofs.merge_leaves.Tie as tie
 
 abbrev Inv-loop : tie.InvT-loop
 Inv-loop n table packed label₀ m₀ sizes₀ names₀ rows₀ p r₀ t₀ label m sizes names rows r t =
-    (1 ≤ t) × (t ≤ n) × LeavesMerged n (scale-of p) (lent-table n table packed) label m sizes names rows r t
+    (1 ≤ t) × (t ≤ n) × LeavesMerged n (counts-scale p) (lent-table n table packed) label m sizes names rows r t
 
 abbrev μ-loop : tie.MeasureT-loop
 μ-loop n table packed label₀ m₀ sizes₀ names₀ rows₀ p r₀ t₀ label m sizes names rows r t = t

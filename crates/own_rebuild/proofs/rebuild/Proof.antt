@@ -2,7 +2,6 @@
 use mathlib.Core.Path.{_≡_}
 use mathlib.Core.Option.{none}
 use Prim.Native.Nat.{_-_, _*_}
-use native.Mathlib.Omega.{arith}
 use borrow.Author.Needs.{needs}
 use lib.ListN.{length}
 use Rattle.refusals.specs.Refusals.{outcome}
@@ -22,22 +21,22 @@ returns : tie.Need-returns
 unfolding rebuild-answer
 returns c =
     let judged = c .before .before .judge-for-rows .ensures in
-    rebuild-gives _ _ _ outcome (unless-told _ _ _ _ _ judged (c .enum-told2 .given .1))
+    rebuild-gives _ _ _ _ outcome (unless-told _ _ _ _ _ judged (c .enum-told2 .given .1))
 
 -- nothing was refused
 passed :
     (c : tie.After-enum-told)
     → let a = c .before .before .before .before .before .args in
-    table-refusal (a .n) (a .table .now) (2 * (a .n - 2)) (length (a .out .now)) ≡ none
+    table-refusal (a .kind) (a .n) (a .table .now) (2 * (a .n - 2)) (length (a .out .now)) ≡ none
 passed c = call-passed _ (c .before .before .judge-for-rows .ensures) (c .enum-told .given .1)
 
 rebuild-checked-requires : tie.Need-rebuild-checked-requires
 rebuild-checked-requires c κs =
     let told = c .before .before in
     let s = told .before .before .before .before .before in
-    let a = accepted-table _ _ _ _ (passed told) in
+    let a = accepted-table _ _ _ _ _ (passed told) in
     let meant = no-bytes (s .args .n) (s .args .table .now) in
-    (a .count, (omega arith, omega arith), rw meant (a .is-table), a .room-enough)
+    (a .count, rw meant (a .is-table), a .room-enough)
 
 returns-2 : tie.Need-returns-2
 unfolding rebuild-answer
@@ -46,7 +45,7 @@ returns-2 c =
     let told = put .before .before .before in
     let a = told .before .before .before .before .before .args in
     let answered = rw (no-bytes (a .n) (a .table .now)) at (put .rebuild-checked .ensures) in
-    rebuild-gives _ _ _ outcome (unless-none _ _ _ _ _ (passed told) answered)
+    rebuild-gives _ _ _ _ outcome (unless-none _ _ _ _ _ (passed told) answered)
 
 pub rebuild-spec : {M : Type 1} → statement M
 rebuild-spec =

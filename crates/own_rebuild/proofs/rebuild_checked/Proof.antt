@@ -7,8 +7,9 @@ use borrow.Author.Needs.{needs}
 use borrow.Author.Tests.{not-true, not-false}
 use lib.Seq.{length-take-le}
 use Rattle.base.proofs.Bools.{never}
+use Rattle.limits.specs.Limits.{scale-of}
 use Rattle.refusals.specs.Refusals.{written}
-use Rattle.state_arrays.specs.inner.Fits.{scale-of, Given}
+use Rattle.state_arrays.specs.inner.Fits.{counts-scale, Given}
 use Rattle.state_arrays.proofs.StateArrays.{counts-given}
 use Rattle.eligible_pairs.specs.inner.Lent.{lent-table}
 use Rattle.leaf_merges.proofs.LeafMerges.{leaves-merged-start}
@@ -16,15 +17,16 @@ use Rattle.own_rebuild.proofs.Results.{standard-rebuilt, rebuilt-done, 
 use Rattle.own_rebuild.proofs.rebuild_checked.Statement.{statement}
 use Rattle.own_rebuild.proofs.rebuild_checked.Tie as tie
 
--- what the merges are given, at the scale that is asked for
+-- what the merges are given, at the scale of the table
 given :
     (c : tie.After-scaled-counts)
     → let a = c .before .before .before .before .args in
     let p = c .scaled-counts .result in
-    (scale-of p ≡ a .scale) × Given (a .n) (scale-of p) (lent-table (a .n) (a .table .now) (a .packed .now)) p
+    (counts-scale p ≡ scale-of (a .kind))
+    × Given (a .n) (counts-scale p) (lent-table (a .n) (a .table .now) (a .packed .now)) p
 given c =
     let s = c .before .before .before .before in
-    counts-given _ (s .args .scale) _ _ (s .pre .0) (s .pre .1) (s .pre .2) (c .scaled-counts .ensures)
+    counts-given (s .args .kind) _ _ _ (s .pre .0) (s .pre .1) (c .scaled-counts .ensures)
 
 merge-leaves-requires : tie.Need-merge-leaves-requires
 merge-leaves-requires c κs =
@@ -75,7 +77,7 @@ returns-2 c =
     let s = counted merged .before .before .before .before in
     let fits = tested .one-subtree-fits .ensures .0 (not-false _ (passed .if1 .left)) in
     let end = merged .merge-leaves .ensures .all-merged in
-    let listing = standard-rebuilt (g .leaf-count) (g .scaled .0) (g .is-table) end fits _ (s .pre .3) in (
+    let listing = standard-rebuilt (g .leaf-count) (g .scaled .0) (g .is-table) end fits _ (s .pre .2) in (
       rw (given (counted merged) .0) at (rebuilt-done (g .leaf-count) (g .scaled .0) (g .is-table) end fits),
       asked .standardise .ensures .1
           ∙ ap (λ a. written a (now (s .args .out))) (rw (given (counted merged) .0) at listing),

@@ -4,7 +4,6 @@ use mathlib.Core.Path.{_≡_, ap, _∙_}
 use mathlib.Core.Option.{none}
 use mathlib.Core.List.{List, []}
 use Prim.Native.Nat.{ℕ, _-_, _*_}
-use native.Mathlib.Omega.{arith}
 use borrow.Author.Needs.{needs}
 use lib.ListN.{length}
 use Rattle.limits.specs.declared.Kind.the-variants.{Counts}
@@ -60,7 +59,7 @@ packed-meant c t = as-packed _ t _ (packed-passes _ _ (right c .count, right c .
 rebuild-checked-requires : tie.Need-rebuild-checked-requires
 rebuild-checked-requires c κs =
     let told = c .before .before in
-    (right told .count, (omega arith, omega arith), rw (packed-meant told []) (sheet-is-table _ _), right told .enough)
+    (right told .count, rw (packed-meant told []) (sheet-is-table _ _), right told .enough)
 
 returns-2 : tie.Need-returns-2
 unfolding packed-answer

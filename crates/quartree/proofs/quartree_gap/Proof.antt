@@ -6,8 +6,11 @@ use Rattle.quartree.proofs.quartree_gap.Tie as tie
 
 returns : tie.Need-returns
 returns c =
-    let done = c .before .before .gap .ensures in
+    let called = c .before .before in
+    let done = rw (called .before .before .kind-of .ensures) at (called .gap .ensures) in
     (replied _ (c .reply-of .ensures) (done .0), done .1)
 
 pub quartree-gap-spec : {M : Type 1} → statement M
-quartree-gap-spec = tie.close (tie.spec (λ c κs. search needs) (λ c κs. search needs) (λ c. search needs) returns)
+quartree-gap-spec =
+    tie.close
+    (tie.spec (λ c κs. search needs) (λ c κs. search needs) (λ c κs. search needs) (λ c. search needs) returns)

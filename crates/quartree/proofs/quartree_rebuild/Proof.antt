@@ -9,8 +9,11 @@ use Rattle.quartree.proofs.quartree_rebuild.Tie as tie
 
 returns : tie.Need-returns
 returns c =
-    let done = c .before .before .before .rebuild .ensures in
-    rebuild-gives _ _ _ reply (replied _ (c .reply-of .ensures) (done .0), done .1 .0)
+    let called = c .before .before .before in
+    let done = rw (called .before .before .kind-of .ensures) at (called .rebuild .ensures) in
+    rebuild-gives _ _ _ _ reply (replied _ (c .reply-of .ensures) (done .0), done .1 .0)
 
 pub quartree-rebuild-spec : {M : Type 1} → statement M
-quartree-rebuild-spec = tie.close (tie.spec (λ c κs. search needs) (λ c κs. search needs) (λ c. search needs) returns)
+quartree-rebuild-spec =
+    tie.close
+    (tie.spec (λ c κs. search needs) (λ c κs. search needs) (λ c κs. search needs) (λ c. search needs) returns)

@@ -9,10 +9,11 @@ use Rattle.quartree.proofs.quartree_rebuild_guided.Tie as tie
 
 returns : tie.Need-returns
 returns c =
-    let done = c .before .before .before .rebuild-guided .ensures in
-    guided-gives _ _ _ _ reply (replied _ (c .reply-of .ensures) (done .0), done .1 .0)
+    let called = c .before .before .before in
+    let done = rw (called .before .before .kind-of .ensures) at (called .rebuild-guided .ensures) in
+    guided-gives _ _ _ _ _ reply (replied _ (c .reply-of .ensures) (done .0), done .1 .0)
 
 pub quartree-rebuild-guided-spec : {M : Type 1} → statement M
 quartree-rebuild-guided-spec =
     tie.close
-    (tie.spec (λ c κs. search needs) (λ c κs. search needs) (λ c. search needs) returns)
+    (tie.spec (λ c κs. search needs) (λ c κs. search needs) (λ c κs. search needs) (λ c. search needs) returns)

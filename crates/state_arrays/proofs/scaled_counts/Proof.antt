@@ -9,7 +9,8 @@ use lib.ListN.{length, getD}
 use Rattle.base.specs.Lists.{tab, filled}
 use Rattle.base.proofs.Lists.{length-tab, getD-tab}
 use Rattle.base.proofs.Filling.{filled-none, filled-more, getD-filled, getD-next}
-use Rattle.limits.specs.Limits.{most-leaves}
+use Rattle.limits.specs.Limits.{most-leaves, most-scale}
+use Rattle.limits.proofs.TableKinds.{scale-bounds}
 use Rattle.pair_counts.specs.Pairs.{P}
 use Rattle.pair_counts.proofs.Pairs.{P-mono, P-most}
 use Rattle.state_arrays.proofs.scaled_counts.Statement.{statement}
@@ -43,18 +44,23 @@ mul-p-2 c =
     let k = c .before .loop .k in
     let most = P-mono k most-leaves (omega arith) in
     let small : getD (c .before .loop .p) k 0 ≤ P most-leaves = omega (arith, next c, most) in
-    omega (arith, P-most, mul-le-mul (s .pre .1) small)
+    let bound = scale-bounds (s .before .args .kind) .1 in
+    let scaled : s .scale-of .result ≤ most-scale = rw (s .scale-of .ensures) bound in
+    omega (arith, P-most, mul-le-mul scaled small)
 
 loop-again : tie.Need-loop-again Inv-loop μ-loop
 loop-again c =
     let l = c .before .loop in
     let s = c .before .before .before in
     let long = ap length (l .inv .1) ∙ length-tab (most-leaves + 1) P in
-    (omega arith, l .inv .1, filled-more _ _ (l .inv .2) (omega (arith, long)) (ap (λ z. s .args .scale * z) (next c)))
+    let grown = ap (λ z. s .scale-of .result * z) (next c) in
+    (omega arith, l .inv .1, filled-more _ _ (l .inv .2) (omega (arith, long)) grown)
 
 returns : tie.Need-returns Inv-loop μ-loop
 returns c = λ k l.
-    rw (c .before .loop .inv .2) (getD-filled _ _ (c .before .loop .k) k 0 (omega arith))
+    let s = c .before .before .before in
+    rw (c .before .loop .inv .2)
+    (getD-filled _ _ (c .before .loop .k) k 0 (omega arith) ∙ ap (λ z. z * P k) (s .scale-of .ensures))
 
 pub scaled-counts-spec : {M : Type 1} → statement M
 scaled-counts-spec =
@@ -62,7 +68,7 @@ scaled-counts-spec =
     (tie.spec
     Inv-loop
     μ-loop
-    (λ c κs. search needs)
+    (λ c κs. search needs) (λ c κs. search needs)
     loop-holds
     (λ c. search needs) (λ c. search needs)
     mul-p-2

@@ -19,8 +19,8 @@ abbrev pub ScaledCounts : ℕ → ℕ → List ℕ → Type 0
 ScaledCounts n s p = (k : ℕ) → k ≤ n → getD p k 0 ≡ s * P k
 
 -- their scale is their number for two leaves, which are one pair
-abbrev pub scale-of : List ℕ → ℕ
-scale-of p = getD p 2 0
+abbrev pub counts-scale : List ℕ → ℕ
+counts-scale p = getD p 2 0
 
 -- what a rebuild is given: a table that passed the checks, and the pair counts at its scale
 pub record Given (n s : ℕ) (t p : List ℕ) : Type 0 where

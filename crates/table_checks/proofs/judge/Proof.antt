@@ -1,9 +1,8 @@
 -- `table_checks::judge` meets its contract: the sizes go first; where they are right the cells decide.
 use borrow.Author.Needs.{needs}
-use Rattle.limits.specs.declared.Kind.the-variants.{Counts}
 use Rattle.refusals.proofs.Answers.{go-stops, go-passes, call-passed}
-use Rattle.checks.proofs.Sizes.{sizes-right}
 use Rattle.table_checks.specs.Operations.{table-refusal}
+use Rattle.table_checks.proofs.TableRefusal.{right-square}
 use Rattle.table_checks.proofs.judge.Statement.{statement}
 use Rattle.table_checks.proofs.judge.Tie as tie
 
@@ -22,10 +21,7 @@ returns c = go-stops _ (c .before .before .judge-table-sizes .ensures) _ (c .enu
 
 wrong-requires : tie.Need-wrong-requires
 wrong-requires c κs =
-    let w =
-    sizes-right Counts _ _ _ _ _ (call-passed _ (c .before .before .judge-table-sizes .ensures)
-    (c .enum-told .given .1)) in
-    record { few = w .count .1; cells = w .long }
+    right-square _ _ _ _ _ (call-passed _ (c .before .before .judge-table-sizes .ensures) (c .enum-told .given .1))
 
 returns-2 : tie.Need-returns-2
 unfolding table-refusal

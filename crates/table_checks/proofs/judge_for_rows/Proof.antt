@@ -13,7 +13,7 @@ judge-requires : tie.Need-judge-requires
 judge-requires c κs = search needs
 
 returns : tie.Need-returns
-returns c = c .judge .ensures ∙ ap outcome-of (table-as-due _ _ _ _ _ (c .before .listing-numbers .ensures))
+returns c = c .judge .ensures ∙ ap outcome-of (table-as-due _ _ _ _ _ _ (c .before .listing-numbers .ensures))
 
 pub judge-for-rows-spec : {M : Type 1} → statement M
 judge-for-rows-spec = tie.close (tie.spec listing-numbers-requires judge-requires returns)

@@ -1,0 +1,4 @@
+mod Signed
+mod GapAnswers
+pub mod GapLaws
+pub mod LowestGaps

@@ -1,0 +1,43 @@
+-- A row of a tree's table as it is written, or taken from another: where its cells stand, what their counts ask, and
+-- one cell more of it.
+use mathlib.Core.Path.{_≡_, refl, sym, _∙_}
+use mathlib.Core.List.{List}
+use Prim.Native.Nat.{ℕ, _+_, _*_, _≤_, _<_}
+use native.Mathlib.Nat.{add-zero}
+use native.Mathlib.Omega.{arith}
+use lib.ListN.{length, set, length-set}
+use Rattle.base.proofs.Lists.{place}
+use Rattle.base.proofs.Filling.{cell-more}
+use Rattle.limits.specs.Limits.{most-leaves, most-cells}
+use Rattle.limits.proofs.TablePlaces.{place-small}
+use Rattle.leaf_orders.specs.inner.Orders.{whole, at}
+use Rattle.least_depths.specs.inner.Depths.{most-depth}
+use Rattle.least_depths.specs.inner.Rows.{TableRowFits, RowWritten}
+
+module _ {n i base room : ℕ} {aboves tops : List ℕ} (fit : TableRowFits n i base aboves tops room) (j : ℕ)
+    (l : j < n) where
+  -- where cell j of the row stands
+  pub cell-place : (i * n + j < most-cells) × (i * n + j < room)
+  cell-place = (place-small n i j (fit .few) (fit .row) l, omega (arith, place n i j (fit .row) l, fit .enough))
+
+  -- what `count_at` asks
+  pub count-asked :
+      (j < most-leaves) × (whole ≤ base + at aboves j + at tops j) × (base + at aboves j + at tops j ≤ most-depth)
+  count-asked = (omega (arith, fit .few), fit .found .covered j l, fit .found .fits j l)
+
+module _ {A : Type 0} {n i : ℕ} {value : ℕ → A} where
+  -- no cell, one more, and all
+  pub row-begun : {out : List A} → RowWritten n i value out out 0
+  row-begun = record { same-length = refl; cells = λ f l h e. rw add-zero e }
+
+  pub row-more :
+      {before out : List A} {j : ℕ} {v : A} → RowWritten n i value before out j → j < n → i * n + j < length before
+      → v ≡ value j → RowWritten n i value before (set out (i * n + j) v) (j + 1)
+  row-more {out = out} {j = j} {v = v} w lj room e = record {
+    same-length = length-set out (i * n + j) v ∙ w .same-length;
+    cells = λ f l h start. cell-more f l (i * n) j start room (w .cells f l h start) (e ∙ sym (h j lj));
+  }
+
+  pub row-whole :
+      {before out : List A} {j : ℕ} → j ≡ n → RowWritten n i value before out j → RowWritten n i value before out n
+  row-whole e w = rw e at w

@@ -1,4 +1,0 @@
-mod RowsFilled
-mod Signed
-mod TableAnswers
-pub mod GapLaws
