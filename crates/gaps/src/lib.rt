@@ -9,15 +9,14 @@ use limits::MOST_NODES;
 use refusals::Outcome;
 ghost use mathlib.Core.Path.{_≡_};
 ghost use mathlib.Core.List.{_++_};
-ghost use Prim.Native.Nat.{_+_, _*_, _≤_};
+ghost use Prim.Native.Nat.{_*_, _≤_};
 ghost use lib.IntN.{pos, _-ℤ_};
-ghost use lib.ListN.{length, getD, drop};
+ghost use lib.ListN.{length, drop};
 ghost use Rattle.limits.specs.Limits.{most-cells, most-scale, scale-of, IsLeafCount};
 ghost use Rattle.refusals.specs.Refusals.{outcome-of, outcome, written};
 ghost use Rattle.trees.specs.Listings.{KeepsRules, tree-of};
-ghost use Rattle.least_depths.specs.inner.Depths.{count-in};
-ghost use Rattle.least_depths.specs.inner.Rows.{TableRowFits, RowWritten};
 ghost use Rattle.gaps.specs.Operations.{gaps, gap-refusal, gap-answer};
+ghost use Rattle.gaps.specs.inner.Rows.{GapRowFits, GapRowWritten};
 
 // The gap at one cell: the table's number less the tree's, which is the count at the table's scale.
 fn less(cell: u32, scale: u32, count: u32) -> i64
@@ -39,12 +38,9 @@ fn subtract_row(
     cells: &[u32],
     out: &mut [i64],
 )
-    requires { ⌜ TableRowFits n i base (now aboves) (now tops) (length (now out)) × (scale ≤ most-scale)
-        × (length (now cells) ≡ n * n) ⌝ }
-    ensures { λ _. ⌜ RowWritten n i
-        (λ j. pos (getD (now (cells .entry)) (i * n + j) 0)
-        -ℤ pos (scale * count-in base (now (aboves .entry)) (now (tops .entry)) j))
-        (now (out .entry)) (now (out .exit)) n ⌝ }
+    requires { ⌜ GapRowFits n i scale base (now aboves) (now tops) (now cells) (length (now out)) ⌝ }
+    ensures { λ _. ⌜ GapRowWritten n i scale base (now (aboves .entry)) (now (tops .entry)) (now (cells .entry))
+        (now (out .entry)) (now (out .exit)) ⌝ }
 {
     let mut j: usize = 0;
     while j < n {
@@ -65,12 +61,9 @@ fn subtract_row_by_scale(
     cells: &[u32],
     out: &mut [i64],
 )
-    requires { ⌜ TableRowFits n i base (now aboves) (now tops) (length (now out)) × (scale ≤ most-scale)
-        × (length (now cells) ≡ n * n) ⌝ }
-    ensures { λ _. ⌜ RowWritten n i
-        (λ j. pos (getD (now (cells .entry)) (i * n + j) 0)
-        -ℤ pos (scale * count-in base (now (aboves .entry)) (now (tops .entry)) j))
-        (now (out .entry)) (now (out .exit)) n ⌝ }
+    requires { ⌜ GapRowFits n i scale base (now aboves) (now tops) (now cells) (length (now out)) ⌝ }
+    ensures { λ _. ⌜ GapRowWritten n i scale base (now (aboves .entry)) (now (tops .entry)) (now (cells .entry))
+        (now (out .entry)) (now (out .exit)) ⌝ }
 {
     if scale == 1 {
         subtract_row(n, i, 1, base, aboves, tops, cells, out);
