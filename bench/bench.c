@@ -15,6 +15,7 @@
 enum { MOST = 128, ROUNDS = 41, SHAPES = 3, COUNTS = 4, LONG = 1 << 20, TIES = 1 << 19 };
 static const size_t counts[COUNTS] = {16, 32, 64, 128};
 static const char *const shapes[SHAPES] = {"comb", "balanced", "random"};
+static const uint64_t imported = 256 * QUARTREE_IMPORTED; /* an accepted reply with that origin */
 
 static size_t n;
 static uint16_t listing[2 * MOST], standard[2 * MOST], merges[2 * MOST], joined[2 * MOST], question[4];
@@ -165,6 +166,14 @@ static void make(int shape)
     if (quartree_table(n, listing, rows, cells, n * n) != 0
         || quartree_standardise(n, listing, rows, expected, rows) != 0)
         fail("a listing was refused");
+    memset(standard, 0, sizeof standard);
+    if (quartree_restandardise(n, QUARTREE_IMPORTED, listing, rows, standard, rows) != imported
+        || memcmp(standard, expected, size) != 0)
+        fail("a record was not restandardised");
+    memset(standard, 0, sizeof standard);
+    if (plain_restandardise(n, QUARTREE_IMPORTED, listing, standard) != imported
+        || memcmp(standard, expected, size) != 0)
+        fail("plain C restandardises otherwise");
     plain_table(n, listing, table);
     if (memcmp(table, cells, n * n * sizeof *cells) != 0)
         fail("plain C makes another table");
@@ -187,10 +196,12 @@ static void make(int shape)
         || memcmp(text_out, text, text_len) != 0)
         fail("plain C exports another text");
     memset(standard, 0, sizeof standard);
-    if (plain_import(sheet, sheet_len, text, text_len, standard, rows) != 0 || memcmp(standard, expected, size) != 0)
+    if (plain_import(sheet, sheet_len, text, text_len, standard, rows) != imported
+        || memcmp(standard, expected, size) != 0)
         fail("plain C imports another tree");
     memset(standard, 0, sizeof standard);
-    if (quartree_import(sheet, sheet_len, text, text_len, standard, rows) != 0 || memcmp(standard, expected, size) != 0)
+    if (quartree_import(sheet, sheet_len, text, text_len, standard, rows) != imported
+        || memcmp(standard, expected, size) != 0)
         fail("an export was not imported");
     if (n <= 32) {
         poll_of_tree();
@@ -239,6 +250,15 @@ static void standardise_plain(void)
 {
     check_plain();
     plain_standardise(n, listing, standard);
+}
+static void restandardise(void)
+{
+    sink += quartree_restandardise(n, QUARTREE_IMPORTED, listing, 2 * (n - 2), standard, 2 * (n - 2));
+}
+static void restandardise_plain(void)
+{
+    check_plain();
+    sink += plain_restandardise(n, QUARTREE_IMPORTED, listing, standard);
 }
 static void standardise_floor(void) { floor_of(listing, 4 * (n - 2), standard, 4 * (n - 2)); }
 static void splits(void) { sink += quartree_splits(n, listing, 2 * (n - 2), sets, QUARTREE_SPLIT_BYTES(n)); }
@@ -327,7 +347,7 @@ static void joining(void)
     sink += joined[0];
 }
 
-enum { CALLS = 17 };
+enum { CALLS = 18 };
 static const struct {
     const char *name;
     size_t most; /* leaves */
@@ -336,6 +356,7 @@ static const struct {
 } calls[CALLS] = {
     {"check", 128, 400, check, check_plain, check_floor},
     {"standardise", 128, 400, standardise, standardise_plain, standardise_floor},
+    {"restandardise", 128, 400, restandardise, restandardise_plain, standardise_floor},
     {"splits", 128, 200, splits, splits_plain, splits_floor},
     {"pairing", 128, 400, pairing, pairing_plain, check_floor},
     {"table", 128, 40, table_ours, table_plain, table_floor},
@@ -510,7 +531,7 @@ static void print_texts(void)
     n = MOST;
     make(2);
     with_lengths();
-    print_long("with lengths", 0, 20);
+    print_long("with lengths", imported, 20);
     printf(" |\n");
     double before = 0;
     size_t len_before = 0;
@@ -520,7 +541,7 @@ static void print_texts(void)
         for (int r = 0; r < ROUNDS; r++)
             taken[r] = timed(long_ours, 4);
         double now_taken = median(taken);
-        print_long("padded by blanks", 0, 4);
+        print_long("padded by blanks", imported, 4);
         if (before > 0)
             printf(" %.1f of %.1f |\n", now_taken / before, (double)long_len / (double)len_before);
         else
@@ -608,7 +629,7 @@ static void print_rebuilds(void)
 static void draw(const char *path, double grown[CALLS][COUNTS])
 {
     static const char *const colours[] = {"#1b6ca8", "#c0392b", "#2e8b57", "#8e44ad", "#d68910", "#34495e"};
-    static const int drawn[] = {1, 4, 6, 7, 12, 14}; /* standardise, table, both rebuilds, and of a sheet */
+    static const int drawn[] = {1, 5, 7, 8, 13, 15}; /* standardise, table, both rebuilds, and of a sheet */
     FILE *f = fopen(path, "w");
     if (f == NULL)
         fail("the plot cannot be written");

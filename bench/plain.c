@@ -2,7 +2,7 @@
 #include "plain.h"
 #include <string.h>
 
-enum { MOST = 128, NUMBERS = 2 * MOST };
+enum { MOST = 128, NUMBERS = 2 * MOST, LISTED = 1, ORIGINS = 5 };
 
 int plain_check(size_t n, const uint16_t *listing)
 {
@@ -54,6 +54,12 @@ void plain_standardise(size_t n, const uint16_t *listing, uint16_t *out)
     children c;
     in_order(n, listing, &c);
     emit(n, &c, 2 * n - 3, 0, out);
+}
+
+uint64_t plain_restandardise(size_t n, uint32_t origin, const uint16_t *listing, uint16_t *out)
+{
+    plain_standardise(n, listing, out);
+    return (uint64_t)(origin < ORIGINS ? origin : LISTED) << 8;
 }
 
 void plain_splits(size_t n, const uint16_t *listing, uint8_t *out)

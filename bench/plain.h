@@ -9,6 +9,8 @@
 int plain_check(size_t n, const uint16_t *listing);
 /* The standard listing. */
 void plain_standardise(size_t n, const uint16_t *listing, uint16_t *out);
+/* The standard listing of a tree record, and the reply as the part's. */
+uint64_t plain_restandardise(size_t n, uint32_t origin, const uint16_t *listing, uint16_t *out);
 /* The table, by merging the rows' subtrees: n * n. */
 void plain_table(size_t n, const uint16_t *listing, uint32_t *out);
 /* The table, by counting quartets edge by edge. */

@@ -8,6 +8,7 @@
 #include <string.h>
 
 enum { MOST = 128, NUMBERS = 2 * MOST, SHEET_MOST = 21512, NAME_MOST = 40, SLOTS = 512, DEEPEST = MOST - 1 };
+enum { IMPORTED = 2 }; /* the origin of what is imported */
 
 static uint64_t refused(unsigned number, size_t figure) { return number | (uint64_t)figure << 8; }
 
@@ -346,5 +347,5 @@ uint64_t plain_import(const uint8_t *sheet, size_t sheet_len, const uint8_t *tex
     if (unmatched || leaves != n)
         return 19;
     write_rows(n, &t, out);
-    return 0;
+    return (uint64_t)IMPORTED << 8;
 }

@@ -34,6 +34,11 @@ static void standardise(void)
 {
     reply = quartree_standardise(leaves, listing, numbers, standard, of(QUARTREE_LISTING_NUMBERS(N)));
 }
+static void restandardise(void)
+{
+    reply = quartree_restandardise(leaves, QUARTREE_IMPORTED, listing, numbers, standard,
+                                   of(QUARTREE_LISTING_NUMBERS(N)));
+}
 static void splits(void) { reply = quartree_splits(leaves, listing, numbers, sets, of(sizeof sets)); }
 static void pairing(void) { reply = quartree_pairing(leaves, listing, numbers, question, 4); }
 static void write_table(void) { reply = quartree_table(leaves, listing, numbers, table_out, of(N * N)); }
@@ -87,11 +92,11 @@ static const struct {
     const char *name;
     void (*call)(void);
 } calls[] = {
-    {"check", check}, {"standardise", standardise}, {"splits", splits}, {"pairing", pairing}, {"table", write_table},
-    {"gap", gap}, {"rebuild", rebuild}, {"rebuild_guided", guided}, {"poll", poll}, {"gap of a poll", gap_of_poll},
-    {"rebuild of a poll", rebuild_of_poll}, {"rebuild_guided of a poll", guided_of_poll}, {"check_sheet", check_sheet},
-    {"sheet_table", sheet_table}, {"sheet_name", sheet_name}, {"rebuild_sheet", rebuild_sheet},
-    {"export", write_text}, {"import", read_text},
+    {"check", check}, {"standardise", standardise}, {"restandardise", restandardise}, {"splits", splits},
+    {"pairing", pairing}, {"table", write_table}, {"gap", gap}, {"rebuild", rebuild}, {"rebuild_guided", guided},
+    {"poll", poll}, {"gap of a poll", gap_of_poll}, {"rebuild of a poll", rebuild_of_poll},
+    {"rebuild_guided of a poll", guided_of_poll}, {"check_sheet", check_sheet}, {"sheet_table", sheet_table},
+    {"sheet_name", sheet_name}, {"rebuild_sheet", rebuild_sheet}, {"export", write_text}, {"import", read_text},
 };
 enum { CALLS = sizeof calls / sizeof *calls };
 

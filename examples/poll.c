@@ -7,6 +7,7 @@
    sixths, so each call that takes it is told QUARTREE_POLL. */
 
 #include "quartree.h"
+#include "listing_words.h"
 #include <stdio.h>
 #include <stdlib.h>
 #include <string.h>
@@ -90,11 +91,7 @@ static void print_tree(size_t n)
 static void print_gaps(size_t n, char **children, size_t len)
 {
     int differs = 0;
-    len = len < NUMBERS ? len : NUMBERS;
-    for (size_t place = 0; place < len; place++) {
-        unsigned long child = strtoul(children[place], NULL, 10);
-        listing[place] = (uint16_t)(child < UINT16_MAX ? child : UINT16_MAX);
-    }
+    len = read_listing(children, len, listing, NUMBERS);
     accepted(quartree_gap(n, QUARTREE_POLL, table, QUARTREE_TABLE_CELLS(n), listing, len, gaps, CELLS));
     for (size_t i = 0; i < n; i++)
         for (size_t j = i + 1; j < n; j++)

@@ -96,6 +96,13 @@ uint32_t draw_word(struct source *source)
     return kind < 160 ? QUARTREE_COUNTS : polls[kind % LENGTH(polls)];
 }
 
+uint32_t draw_origin(struct source *source)
+{
+    uint8_t kind = take(source);
+    uint32_t small = kind % 8;
+    return kind < 160 ? small : kind < 208 ? small ^ take_bit(source) : take_number(source, 4);
+}
+
 /* A length that does not fit in one case of six. */
 static size_t draw_length(struct source *source, size_t fitting)
 {

@@ -42,6 +42,9 @@ size_t draw_poll_leaf_count(struct source *source);
 /* The caller's word for a table: mostly that it is one of counts, else any number. */
 uint32_t draw_word(struct source *source);
 
+/* The number of a record's origin: mostly a small one, else one that differs from it in one bit, or any number. */
+uint32_t draw_origin(struct source *source);
+
 /* The room of an output: mostly the result's length, else less, or more by up to SLACK. */
 size_t draw_room(struct source *source, size_t result);
 

@@ -13,6 +13,8 @@ mod chance;
 mod merge;
 #[path = "../reference/src/newick.rs"]
 mod newick;
+#[path = "../reference/src/origin.rs"]
+mod origin;
 #[path = "../reference/src/part.rs"]
 mod part;
 #[path = "../reference/src/poll.rs"]

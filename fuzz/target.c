@@ -16,12 +16,12 @@
 
 enum entry {
     CHECK, STANDARDISE, SPLITS, PAIRING, TABLE, GAP, REBUILD, REBUILD_GUIDED, POLL, SHEET_TABLE, SHEET_NAME,
-    REBUILD_SHEET, CHECK_SHEET, EXPORT, IMPORT, ENTRIES
+    REBUILD_SHEET, CHECK_SHEET, EXPORT, IMPORT, RESTANDARDISE, ENTRIES
 };
 
 static const char *const entry_name[ENTRIES] = {
     "check", "standardise", "splits", "pairing", "table", "gap", "rebuild", "rebuild_guided", "poll", "sheet_table",
-    "sheet_name", "rebuild_sheet", "check_sheet", "export", "import"
+    "sheet_name", "rebuild_sheet", "check_sheet", "export", "import", "restandardise"
 };
 
 /* The reference's entries take what the archive's take. */
@@ -40,13 +40,15 @@ extern __typeof__(quartree_rebuild_sheet) reference_rebuild_sheet;
 extern __typeof__(quartree_check_sheet) reference_check_sheet;
 extern __typeof__(quartree_export) reference_export;
 extern __typeof__(quartree_import) reference_import;
+extern __typeof__(quartree_restandardise) reference_restandardise;
 
 /* A call: the numbers it is given, and the buffers it is lent, inputs in the order of its arguments and then the
    output; but the text of an import, which may be all bytes that are left, is the last. Of a sheet, n is what its
    trailer says and is not an argument. */
 struct call {
     enum entry entry;
-    uint32_t word; /* for a table */
+    uint32_t word;   /* for a table */
+    uint32_t origin; /* of a record */
     size_t n, leaf;
     size_t buffers;
     struct lent lent[MOST_LENT];
@@ -89,7 +91,7 @@ static size_t result_of(size_t n, size_t elements)
     return n >= QUARTREE_LEAST_LEAVES && n <= FITTED_LEAVES ? elements : 4;
 }
 
-/* check, standardise, splits, pairing, table */
+/* check, standardise, restandardise, splits, pairing, table */
 static void read_listing_call(struct source *source, struct call *call)
 {
     static uint16_t listing[MOST_NUMBERS], question[MOST_NUMBERS];
@@ -97,7 +99,9 @@ static void read_listing_call(struct source *source, struct call *call)
     draw_listing(source, n, listing);
     len = damage_listing(source, n, listing);
     lend_next(call, "listing", listing, sizeof *listing, len);
-    if (call->entry == STANDARDISE)
+    if (call->entry == RESTANDARDISE)
+        call->origin = draw_origin(source);
+    if (call->entry == STANDARDISE || call->entry == RESTANDARDISE)
         lend_output(source, call, sizeof(uint16_t), result_of(n, QUARTREE_LISTING_NUMBERS(n)));
     if (call->entry == SPLITS)
         lend_output(source, call, 1, result_of(n, QUARTREE_SPLIT_BYTES(n)));
@@ -216,6 +220,7 @@ static void read_call(struct source *source, struct call *call)
     call->buffers = 0;
     call->leaf = 0;
     call->word = QUARTREE_COUNTS;
+    call->origin = QUARTREE_REBUILT;
     switch (call->entry) {
     case GAP:
         read_gap_call(source, call);
@@ -281,6 +286,8 @@ static uint64_t make_call(const struct call *call, enum taker taker)
         return ASK(export, LENT(0), LENT(1), LENT(2));
     case IMPORT:
         return ASK(import, LENT(0), LENT(2), LENT(1));
+    case RESTANDARDISE:
+        return ASK(restandardise, call->n, call->origin, LENT(0), LENT(1));
     default:
         return ASK(check_sheet, LENT(0));
     }
@@ -293,6 +300,8 @@ static void print_call(const struct call *call)
         printf(", leaf = %zu", call->leaf);
     if (call->entry == GAP || call->entry == REBUILD || call->entry == REBUILD_GUIDED)
         printf(", poll = %" PRIu32, call->word);
+    if (call->entry == RESTANDARDISE)
+        printf(", origin = %" PRIu32, call->origin);
     putchar('\n');
     for (size_t place = 0; place < call->buffers; place++)
         print_lent(&call->lent[place]);

@@ -42,6 +42,8 @@ HOLDS(refusal_19, QUARTREE_REFUSED_UNMATCHED == 19);
 HOLDS(leaves, QUARTREE_LEAST_LEAVES == 3 && QUARTREE_MOST_LEAVES == 128);
 HOLDS(poll_leaves, QUARTREE_POLL_LEAST_LEAVES == 4 && QUARTREE_POLL_MOST_LEAVES == 32);
 HOLDS(words_for_a_table, QUARTREE_COUNTS == 0 && QUARTREE_POLL != 0);
+HOLDS(origins_of_now, QUARTREE_REBUILT == 0 && QUARTREE_LISTED == 1 && QUARTREE_IMPORTED == 2);
+HOLDS(origins_of_later, QUARTREE_GUESSED == 3 && QUARTREE_GRAFTED == 4);
 HOLDS(sheet_bytes, QUARTREE_SHEET_MOST_BYTES == 21512 && 128 * 41 + 128 * 127 + 8 == 21512);
 HOLDS(listing_numbers, QUARTREE_LISTING_NUMBERS(3) == 2 && QUARTREE_LISTING_NUMBERS(128) == 252);
 HOLDS(listing_bytes, QUARTREE_LISTING_BYTES(3) == 4 && QUARTREE_LISTING_BYTES(128) == 504);
@@ -71,6 +73,10 @@ static const char *const words[] = {
 
 enum { REFUSALS = 19 };
 
+/* The word for each origin's number. */
+static const char *const origin_words[] = {"rebuilt", "listed", "imported", "guessed", "grafted"};
+enum { ORIGINS = 5 };
+
 /* ---- What is lent ------------------------------------------------------------------------------------------------ */
 
 /* Every buffer, one element longer than it ever has to be, so that one that is too long can be lent. */
@@ -89,8 +95,9 @@ struct lent {
 
 static struct lent lent, before;
 
-/* The numbers that go with them: leaf count, word for the table, lengths, room, and the leaf that is asked for. */
-static uint32_t word;
+/* The numbers that go with them: leaf count, word for the table, a record's origin, lengths, room, and the leaf that is
+   asked for. */
+static uint32_t word, origin;
 static size_t n, listing_len, question_len, cells, merges_len, count, sheet_len, text_len, room, leaf;
 
 /* The results that are due. No gap is left between a tree and its own table. */
@@ -219,6 +226,7 @@ static void fill(size_t leaves)
     merges_len = QUARTREE_MERGE_NUMBERS(leaves);
     count = QUARTREE_POLL_RECORDS(leaves);
     leaf = leaves - 1;
+    origin = 4;
 }
 
 /* ---- The calls --------------------------------------------------------------------------------------------------- */
@@ -227,6 +235,10 @@ static uint64_t check(void) { return quartree_check(n, lent.listing, listing_len
 static uint64_t standardise(void)
 {
     return quartree_standardise(n, lent.listing, listing_len, lent.out.numbers, room);
+}
+static uint64_t restandardise(void)
+{
+    return quartree_restandardise(n, origin, lent.listing, listing_len, lent.out.numbers, room);
 }
 static uint64_t list_splits(void) { return quartree_splits(n, lent.listing, listing_len, lent.out.bytes, room); }
 static uint64_t pairing(void)
@@ -271,6 +283,9 @@ static size_t of_text(size_t leaves) { return leaves * lent.sheet[0] + 3 * leave
 /* The figure of an accepted call. Of the question's leaves 0, n-1, 1, n-2 the first is paired with the third. */
 static uint64_t nothing(void) { return 0; }
 static uint64_t third(void) { return 1; }
+static uint64_t rebuilt(void) { return 0; }
+static uint64_t imported(void) { return 2; }
+static uint64_t grafted(void) { return 4; }
 static uint64_t leaf_count(void) { return n; }
 static uint64_t length_of_text(void) { return text_len; }
 static uint64_t place_of_last_name(void)
@@ -300,19 +315,21 @@ struct entry {
 static const struct entry entries[] = {
     {"check", check, COUNT | LISTING, 3, 128, {1, 2, 7, 8}, nothing, no_cells, standard, 1},
     {"standardise", standardise, COUNT | LISTING | OUTPUT, 3, 128, {1, 2, 3, 7, 8}, nothing, of_listing, standard, 2},
+    {"restandardise", restandardise, COUNT | LISTING | OUTPUT, 3, 128, {1, 2, 3, 7, 8}, grafted, of_listing, standard,
+     2},
     {"splits", list_splits, COUNT | LISTING | OUTPUT, 3, 128, {1, 2, 3, 7, 8}, nothing, of_splits, splits, 1},
     {"pairing", pairing, COUNT | LISTING | QUESTION, 4, 128, {1, 2, 7, 8, 9}, third, no_cells, standard, 1},
     {"table", write_table, COUNT | LISTING | OUTPUT, 3, 128, {1, 2, 3, 7, 8}, nothing, of_table, table, 4},
     {"gap", gap, COUNT | LISTING | TABLE | OUTPUT, 3, 128, {1, 2, 3, 7, 8, 4, 5}, nothing, of_table, gaps, 8},
-    {"rebuild", rebuild, COUNT | TABLE | OUTPUT, 3, 128, {1, 2, 3, 4, 5, 6}, nothing, of_listing, standard, 2},
-    {"rebuild_guided", guided, COUNT | TABLE | MERGES | OUTPUT, 3, 128, {1, 2, 3, 4, 5, 12}, nothing, of_listing,
+    {"rebuild", rebuild, COUNT | TABLE | OUTPUT, 3, 128, {1, 2, 3, 4, 5, 6}, rebuilt, of_listing, standard, 2},
+    {"rebuild_guided", guided, COUNT | TABLE | MERGES | OUTPUT, 3, 128, {1, 2, 3, 4, 5, 12}, rebuilt, of_listing,
      standard, 2},
     {"gap of a poll", gap, POLL_COUNT | LISTING | TABLE | POLL_TABLE | OUTPUT, 4, 32, {1, 2, 3, 7, 8, 4, 5}, nothing,
      of_table, gaps, 8},
-    {"rebuild of a poll", rebuild, POLL_COUNT | TABLE | POLL_TABLE | OUTPUT, 4, 32, {1, 2, 3, 4, 5, 6}, nothing,
+    {"rebuild of a poll", rebuild, POLL_COUNT | TABLE | POLL_TABLE | OUTPUT, 4, 32, {1, 2, 3, 4, 5, 6}, rebuilt,
      of_listing, standard, 2},
     {"rebuild_guided of a poll", guided, POLL_COUNT | TABLE | POLL_TABLE | MERGES | OUTPUT, 4, 32, {1, 2, 3, 4, 5, 12},
-     nothing, of_listing, standard, 2},
+     rebuilt, of_listing, standard, 2},
     {"poll", poll, POLL_COUNT | RECORDS | OUTPUT, 4, 32, {1, 2, 3, 10, 11}, nothing, of_table, sixths, 4},
     {"check_sheet", check_sheet, SHEET, 3, 128, {13, 1, 14, 15, 16}, leaf_count, no_cells, standard, 1},
     {"sheet_table", sheet_table, SHEET | OUTPUT, 3, 128, {13, 1, 14, 3, 15, 16}, leaf_count, of_table, table, 4},
@@ -321,7 +338,7 @@ static const struct entry entries[] = {
      listing_bytes_due, 1},
     {"export", export_text, SHEET | LISTING | OUTPUT, 3, 128, {13, 1, 2, 14, 7, 8, 15, 16, 3}, length_of_text, of_text,
      text, 1},
-    {"import", import_text, SHEET | TEXT | OUTPUT, 3, 128, {13, 1, 14, 3, 15, 16, 17, 18, 19}, nothing, of_listing,
+    {"import", import_text, SHEET | TEXT | OUTPUT, 3, 128, {13, 1, 14, 3, 15, 16, 17, 18, 19}, imported, of_listing,
      standard, 2},
 };
 enum { ENTRIES = sizeof entries / sizeof *entries };
@@ -659,7 +676,70 @@ static void try_codes(void)
     claim(poll() == QUARTREE_REFUSED_PAIRING_CODE, "poll", "takes code 255", 11);
 }
 
-/* Each number has a text of its own, and numbers of no refusal have another. */
+/* A record keeps its origin, and every number above 4 is taken as listed. */
+static void try_origins(void)
+{
+    static const uint32_t said[] = {0, 1, 2, 3, 4, 5, 6, 7, 8, 255, 256, 257, 258, 65536, 1u << 31, UINT32_MAX};
+    for (size_t s = 0; s < sizeof said / sizeof *said; s++) {
+        fill(5);
+        room = listing_len;
+        origin = said[s];
+        claim(restandardise() == 256 * (said[s] < ORIGINS ? (uint64_t)said[s] : 1), "restandardise",
+              "tells another origin", 0);
+    }
+}
+
+/* Restandardises what the last call wrote, a tree of five leaves, with each row's children exchanged; twice. */
+static uint64_t restandardise_twice(uint32_t marked)
+{
+    uint64_t reply = 0;
+    room = listing_len;
+    origin = marked;
+    for (int time = 0; time < 2; time++) {
+        for (size_t place = 0; place < listing_len; place++)
+            lent.listing[place] = lent.out.numbers[place ^ 1];
+        reply = restandardise();
+        origin = (uint32_t)QUARTREE_FIGURE(reply);
+    }
+    return reply;
+}
+
+/* Has the tree that the last call wrote the table lent, by the word for it? */
+static int has_table(void)
+{
+    memcpy(lent.listing, lent.out.numbers, listing_len * sizeof *lent.listing);
+    room = cells;
+    return gap() == QUARTREE_ACCEPTED && memcmp(lent.out.gaps, gaps, cells * sizeof *gaps) == 0;
+}
+
+/* A record that is marked rebuilt has the table that the rebuild was given, also when it was restandardised: by either
+   rebuild, of counts and of a poll's table. A listing that was checked stays listed, and what was imported imported. */
+static void try_records(void)
+{
+    static uint64_t (*const rebuilds[])(void) = {rebuild, guided};
+    for (uint32_t is_poll = 0; is_poll < 2; is_poll++)
+        for (size_t r = 0; r < 2; r++) {
+            uint64_t reply;
+            fill(5);
+            room = listing_len;
+            word = is_poll;
+            memcpy(lent.table, is_poll != 0 ? sixths : table, cells * sizeof *table);
+            reply = rebuilds[r]();
+            claim(reply == 256 * QUARTREE_REBUILT, "rebuild", "tells another origin", 0);
+            claim(restandardise_twice((uint32_t)QUARTREE_FIGURE(reply)) == 256 * QUARTREE_REBUILT && has_table(),
+                  "restandardise", "makes another record of one that is rebuilt", 0);
+        }
+    fill(5);
+    claim(check() == QUARTREE_ACCEPTED, "check", "refuses a listing", 0);
+    memcpy(lent.out.numbers, lent.listing, listing_len * sizeof *lent.listing);
+    claim(restandardise_twice(QUARTREE_LISTED) == 256 * QUARTREE_LISTED, "restandardise", "has another origin", 0);
+    fill(5);
+    room = listing_len;
+    claim(import_text() == 256 * QUARTREE_IMPORTED && restandardise_twice(QUARTREE_IMPORTED) == 256 * QUARTREE_IMPORTED,
+          "import", "tells another origin", 0);
+}
+
+/* Each number has a text of its own, and numbers of no refusal have another; so it is with origins. */
 static void try_texts(void)
 {
     const char *none = quartree_refusal_text(REFUSALS + 1);
@@ -672,6 +752,15 @@ static void try_texts(void)
     claim(none[0] != '\0' && strcmp(none, quartree_refusal_text(255)) == 0
               && strcmp(none, quartree_refusal_text((unsigned)-1)) == 0,
           "refusal_text", "has no text for other numbers", 0);
+    none = quartree_origin_text(ORIGINS);
+    for (uint32_t number = 0; number < ORIGINS; number++) {
+        const char *due = origin_words[number];
+        claim(strcmp(quartree_origin_text(number), due) == 0, "origin_text", "has another text", 0);
+        claim(strcmp(none, due) != 0, "origin_text", "has the text of no origin", 0);
+    }
+    claim(none[0] != '\0' && strcmp(none, quartree_origin_text(256)) == 0
+              && strcmp(none, quartree_origin_text(UINT32_MAX)) == 0,
+          "origin_text", "has no text for other numbers", 0);
 }
 
 int main(void)
@@ -694,6 +783,8 @@ int main(void)
     try_gaps();
     try_words();
     try_codes();
+    try_origins();
+    try_records();
     try_texts();
     printf("header: %u calls, every refusal met\n", calls);
     return 0;

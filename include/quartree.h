@@ -2,8 +2,8 @@
 
    The part turns a table of quartet counts into the one tree that has it, or refuses; and it goes the other way. It
    writes trees as Newick text, and reads them. Trees have no root and no branch lengths. This header is the manual: the
-   words, the sizes, the reply and the causes of refusal, what a caller owes, what every call promises, and then the
-   calls.
+   words, the sizes, the reply and the causes of refusal, the origins, what a caller owes, what every call promises, and
+   then the calls.
 
    Link with libquartree.a. Of the C library it takes memcpy, memmove, memset and memcmp at most.
 
@@ -16,12 +16,16 @@
 #include <stddef.h>
 #include <stdint.h>
 
-#define QUARTREE_VERSION "0.4.0"
+#define QUARTREE_VERSION "0.5.0"
 #define QUARTREE_VERSION_MAJOR 0
-#define QUARTREE_VERSION_MINOR 4
+#define QUARTREE_VERSION_MINOR 5
 #define QUARTREE_VERSION_PATCH 0
 
-/* From 0.3 to 0.4: quartree_gap, quartree_rebuild and quartree_rebuild_guided take one argument more, poll, right after
+/* From 0.4 to 0.5: an accepted quartree_import replies with its tree's origin as the figure: 512, where it was 0. No
+   compiler notices: what compares that reply with 0 has to compare QUARTREE_NUMBER(reply) with QUARTREE_ACCEPTED. The
+   rebuilds tell their origin, too; its number is 0, so they reply as before. quartree_restandardise is new.
+
+   From 0.3 to 0.4: quartree_gap, quartree_rebuild and quartree_rebuild_guided take one argument more, poll, right after
    n; with QUARTREE_COUNTS they answer as before. What calls them has to be changed and built anew. Polls have the codes
    4, 5 and 6, too, and are counted in sixths: their tables are lent with QUARTREE_POLL. */
 
@@ -80,7 +84,12 @@
 
    What a text draws. Every bracket is a node, and an edge joins it to each of its parts; but a top of two parts is no
    node, and one edge joins its parts. Lengths say nothing. Where every bracket has two parts, or three as the top, and
-   the names are the sheet's, each once, that is one unrooted binary tree on the sheet's leaves. */
+   the names are the sheet's, each once, that is one unrooted binary tree on the sheet's leaves.
+
+   Tree record. A leaf count, a listing and an origin, which a caller keeps side by side; the part keeps none.
+
+   Origin. Where the tree of a record came from: rebuilt from a table, listed (lent as a listing), imported from a text,
+   guessed or grafted. No call of this version guesses or grafts. */
 
 /* ---- Sizes ----------------------------------------------------------------------------------------------------------
 
@@ -199,6 +208,50 @@ static inline const char *quartree_refusal_text(unsigned number)
     }
 }
 
+/* ---- Origins --------------------------------------------------------------------------------------------------------
+
+   Origins have the numbers 0 to 4. A number above 4 is taken as QUARTREE_LISTED. An accepted quartree_rebuild,
+   quartree_rebuild_guided, quartree_import or quartree_restandardise tells the origin of its tree as the figure. Other
+   figures are no origins: not that of a refused call, nor that of quartree_check, though their 0 would read as
+   QUARTREE_REBUILT. */
+
+#define QUARTREE_REBUILT 0
+#define QUARTREE_LISTED 1
+#define QUARTREE_IMPORTED 2
+#define QUARTREE_GUESSED 3
+#define QUARTREE_GRAFTED 4
+
+/* A word for each origin's number. */
+static inline const char *quartree_origin_text(uint32_t origin)
+{
+    switch (origin) {
+    case QUARTREE_REBUILT:
+        return "rebuilt";
+    case QUARTREE_LISTED:
+        return "listed";
+    case QUARTREE_IMPORTED:
+        return "imported";
+    case QUARTREE_GUESSED:
+        return "guessed";
+    case QUARTREE_GRAFTED:
+        return "grafted";
+    default:
+        return "no origin has this number";
+    }
+}
+
+/* What a lab may file and rely on:
+
+   - Of every record that comes out of a chain of the part's calls, each handed what the one before it made: where it
+     is marked rebuilt, its tree has the table that the rebuild was given, a poll's being six times the tree's own
+     ('made-rebuilt'). Listed and imported promise nothing of a table.
+   - quartree_restandardise keeps the tree and the origin ('restandardise-same').
+   - A listing of the caller's own is filed as listed, once quartree_check accepts it.
+   - The tree that quartree_rebuild_sheet writes may be filed as rebuilt, since it has the sheet's table; that call has
+     no place to say so ('sheet-bytes-made').
+   - A record whose number somebody else wrote promises nothing of a table. No call refuses it for its number, and none
+     traps on it. */
+
 /* ---- What a caller owes ---------------------------------------------------------------------------------------------
 
    No call can check these, and none of its promises holds without them.
@@ -243,6 +296,13 @@ uint64_t quartree_check(size_t n, const uint16_t *listing, size_t len);
    Accepted: the first QUARTREE_LISTING_NUMBERS(n) numbers of out are the standard listing. */
 uint64_t quartree_standardise(size_t n, const uint16_t *listing, size_t len, uint16_t *out, size_t room);
 
+/* Writes the standard listing of a tree record's tree, and tells the record's origin.
+   Refused, in this order: 1, 2, 3, 7, 8.
+   Accepted: the first QUARTREE_LISTING_NUMBERS(n) numbers of out are the standard listing, and the figure is origin, or
+   QUARTREE_LISTED if origin is above 4. */
+uint64_t quartree_restandardise(size_t n, uint32_t origin, const uint16_t *listing, size_t len, uint16_t *out,
+                                size_t room);
+
 /* Lists the splits of a listing's tree.
    Refused, in this order: 1, 2, 3, 7, 8.
    Accepted: the first QUARTREE_SPLIT_BYTES(n) bytes of out are the tree's n-3 splits, in the order in which the
@@ -282,7 +342,8 @@ uint64_t quartree_gap(size_t n, uint32_t poll, const uint32_t *table, size_t cel
    leaves has the table. Then every list of eligible merges, taken until no pair is eligible, leaves more than one
    subtree.
    Accepted: the first QUARTREE_LISTING_NUMBERS(n) numbers of out are the standard listing of the only tree that has
-   the table. Every list of eligible merges, taken until no pair is eligible, ends in this one tree. */
+   the table, and the figure is QUARTREE_REBUILT. Every list of eligible merges, taken until no pair is eligible, ends
+   in this one tree. */
 uint64_t quartree_rebuild(size_t n, uint32_t poll, const uint32_t *table, size_t cells, uint16_t *out, size_t room);
 
 /* Rebuilds the tree of a table by proposed merges. The length of the list, len, has to be QUARTREE_MERGE_NUMBERS(n).
@@ -290,7 +351,7 @@ uint64_t quartree_rebuild(size_t n, uint32_t poll, const uint32_t *table, size_t
    Refused, in this order: 1, 2 (either input), 3, 4, 5, 12. Where 1 to 5 do not apply, 12 is given exactly when some
    step names no pair that is eligible at its turn. Where quartree_rebuild says 6, every list is refused by 12.
    Accepted: the first QUARTREE_LISTING_NUMBERS(n) numbers of out are the standard listing of the only tree that has
-   the table, the same that quartree_rebuild writes. */
+   the table, the same that quartree_rebuild writes, and the figure is QUARTREE_REBUILT. */
 uint64_t quartree_rebuild_guided(size_t n, uint32_t poll, const uint32_t *table, size_t cells, const uint16_t *merges,
                                  size_t len, uint16_t *out, size_t room);
 
@@ -354,7 +415,8 @@ uint64_t quartree_export(const uint8_t *sheet, size_t sheet_len, const uint16_t 
 
 /* Reads the tree that a text draws. The text may have any length, and no 0 byte ends it.
    Refused, in this order: 13, 1, 14, 3, 15, 16, 17, 18, 19.
-   Accepted: the first QUARTREE_LISTING_NUMBERS(n) numbers of out are the standard listing of the tree. */
+   Accepted: the first QUARTREE_LISTING_NUMBERS(n) numbers of out are the standard listing of the tree, and the figure
+   is QUARTREE_IMPORTED. */
 uint64_t quartree_import(const uint8_t *sheet, size_t sheet_len, const uint8_t *text, size_t text_len,
                          uint16_t *out, size_t room);
 

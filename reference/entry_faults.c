@@ -6,6 +6,7 @@
 
 uint64_t real_check(size_t n, const uint16_t *listing, size_t len);
 uint64_t real_standardise(size_t n, const uint16_t *listing, size_t len, uint16_t *out, size_t room);
+uint64_t real_restandardise(size_t n, uint32_t origin, const uint16_t *listing, size_t len, uint16_t *out, size_t room);
 uint64_t real_splits(size_t n, const uint16_t *listing, size_t len, uint8_t *out, size_t room);
 uint64_t real_pairing(size_t n, const uint16_t *listing, size_t len, const uint16_t *question, size_t question_len);
 uint64_t real_table(size_t n, const uint16_t *listing, size_t len, uint32_t *out, size_t room);
@@ -507,5 +508,106 @@ uint64_t quartree_poll(size_t n, const struct quartree_record *records, size_t c
         if (records[record].code > 3)
             return QUARTREE_REFUSED_PAIRING_CODE | (uint64_t)record << 8;
     return real_poll(n, records, count, out, room);
+}
+
+#elif FAULT == 61 /* rebuild: its tree told as listed */
+uint64_t quartree_rebuild(size_t n, uint32_t poll, const uint32_t *table, size_t cells, uint16_t *out, size_t room)
+{
+    uint64_t reply = real_rebuild(n, poll, table, cells, out, room);
+    return NUMBER(reply) == QUARTREE_ACCEPTED ? 256 * QUARTREE_LISTED : reply;
+}
+
+#elif FAULT == 62 /* guided: a poll's tree told as guessed */
+uint64_t quartree_rebuild_guided(size_t n, uint32_t poll, const uint32_t *table, size_t cells, const uint16_t *merges,
+                                 size_t len, uint16_t *out, size_t room)
+{
+    uint64_t reply = real_rebuild_guided(n, poll, table, cells, merges, len, out, room);
+    return NUMBER(reply) == QUARTREE_ACCEPTED && poll != 0 ? 256 * QUARTREE_GUESSED : reply;
+}
+
+#elif FAULT == 63 /* import: no origin told, which reads as rebuilt */
+uint64_t quartree_import(const uint8_t *sheet, size_t sheet_len, const uint8_t *text, size_t text_len, uint16_t *out,
+                         size_t room)
+{
+    uint64_t reply = real_import(sheet, sheet_len, text, text_len, out, room);
+    return NUMBER(reply) == QUARTREE_ACCEPTED ? QUARTREE_ACCEPTED : reply;
+}
+
+#elif FAULT == 64 /* import: its tree told as listed */
+uint64_t quartree_import(const uint8_t *sheet, size_t sheet_len, const uint8_t *text, size_t text_len, uint16_t *out,
+                         size_t room)
+{
+    uint64_t reply = real_import(sheet, sheet_len, text, text_len, out, room);
+    return NUMBER(reply) == QUARTREE_ACCEPTED ? 256 * QUARTREE_LISTED : reply;
+}
+
+#elif FAULT == 65 /* restandardise: a number above 4 passed on */
+uint64_t quartree_restandardise(size_t n, uint32_t origin, const uint16_t *listing, size_t len, uint16_t *out,
+                                size_t room)
+{
+    uint64_t reply = real_restandardise(n, origin, listing, len, out, room);
+    return NUMBER(reply) == QUARTREE_ACCEPTED ? (uint64_t)origin << 8 : reply;
+}
+
+#elif FAULT == 66 /* restandardise: a number above 4 taken as rebuilt */
+uint64_t quartree_restandardise(size_t n, uint32_t origin, const uint16_t *listing, size_t len, uint16_t *out,
+                                size_t room)
+{
+    return real_restandardise(n, origin > QUARTREE_GRAFTED ? QUARTREE_REBUILT : origin, listing, len, out, room);
+}
+
+#elif FAULT == 67 /* restandardise: the origin in 3 bits */
+uint64_t quartree_restandardise(size_t n, uint32_t origin, const uint16_t *listing, size_t len, uint16_t *out,
+                                size_t room)
+{
+    return real_restandardise(n, origin & 7, listing, len, out, room);
+}
+
+#elif FAULT == 68 /* restandardise: the origin in 8 bits */
+uint64_t quartree_restandardise(size_t n, uint32_t origin, const uint16_t *listing, size_t len, uint16_t *out,
+                                size_t room)
+{
+    return real_restandardise(n, (uint8_t)origin, listing, len, out, room);
+}
+
+#elif FAULT == 69 /* restandardise: a number that is negative as an int taken as rebuilt */
+uint64_t quartree_restandardise(size_t n, uint32_t origin, const uint16_t *listing, size_t len, uint16_t *out,
+                                size_t room)
+{
+    return real_restandardise(n, (int32_t)origin < 0 ? QUARTREE_REBUILT : origin, listing, len, out, room);
+}
+
+#elif FAULT == 70 /* restandardise: always rebuilt */
+uint64_t quartree_restandardise(size_t n, uint32_t origin, const uint16_t *listing, size_t len, uint16_t *out,
+                                size_t room)
+{
+    (void)origin;
+    return real_restandardise(n, QUARTREE_REBUILT, listing, len, out, room);
+}
+
+#elif FAULT == 71 /* restandardise: no origin told, as standardise has none */
+uint64_t quartree_restandardise(size_t n, uint32_t origin, const uint16_t *listing, size_t len, uint16_t *out,
+                                size_t room)
+{
+    (void)origin;
+    return real_standardise(n, listing, len, out, room);
+}
+
+#elif FAULT == 72 /* restandardise: the listing as it was lent */
+uint64_t quartree_restandardise(size_t n, uint32_t origin, const uint16_t *listing, size_t len, uint16_t *out,
+                                size_t room)
+{
+    uint64_t reply = real_restandardise(n, origin, listing, len, out, room);
+    for (size_t place = 0; NUMBER(reply) == QUARTREE_ACCEPTED && place < len; place++)
+        out[place] = listing[place];
+    return reply;
+}
+
+#elif FAULT == 73 /* restandardise: the origin told with a refusal, too */
+uint64_t quartree_restandardise(size_t n, uint32_t origin, const uint16_t *listing, size_t len, uint16_t *out,
+                                size_t room)
+{
+    uint64_t reply = real_restandardise(n, origin, listing, len, out, room);
+    return reply == QUARTREE_REFUSED_OUTPUT_ROOM ? reply | (uint64_t)origin << 8 : reply;
 }
 #endif

@@ -5,6 +5,7 @@
 
 use crate::chance::Chance;
 use crate::every::Every;
+use crate::origin::{self, Origin, TreeRecord};
 use crate::part::{self, Cell, Lent};
 use crate::poll::{self, Record};
 use crate::refuse::{reply, Answer, Refusal};
@@ -17,6 +18,7 @@ use crate::{merge, newick, sheet};
 pub enum Kind {
     Check,
     Standardise,
+    Restandardise,
     Splits,
     Pairing,
     Table,
@@ -33,9 +35,10 @@ pub enum Kind {
 }
 
 impl Kind {
-    pub const ALL: [Kind; 15] = [
+    pub const ALL: [Kind; 16] = [
         Kind::Check,
         Kind::Standardise,
+        Kind::Restandardise,
         Kind::Splits,
         Kind::Pairing,
         Kind::Table,
@@ -55,6 +58,7 @@ impl Kind {
         match self {
             Kind::Check => "check",
             Kind::Standardise => "standardise",
+            Kind::Restandardise => "restandardise",
             Kind::Splits => "splits",
             Kind::Pairing => "pairing",
             Kind::Table => "table",
@@ -75,7 +79,7 @@ impl Kind {
     pub fn refusals(self) -> &'static [u64] {
         match self {
             Kind::Check => &[1, 2, 7, 8],
-            Kind::Standardise | Kind::Splits | Kind::Table => &[1, 2, 3, 7, 8],
+            Kind::Standardise | Kind::Restandardise | Kind::Splits | Kind::Table => &[1, 2, 3, 7, 8],
             Kind::Pairing => &[1, 2, 7, 8, 9],
             Kind::Gap => &[1, 2, 3, 7, 8, 4, 5],
             Kind::Rebuild => &[1, 2, 3, 4, 5, 6],
@@ -96,6 +100,7 @@ impl Kind {
 pub enum Case {
     Check { n: usize, listing: Vec<u16> },
     Standardise { n: usize, listing: Vec<u16>, room: usize },
+    Restandardise { n: usize, origin: u32, listing: Vec<u16>, room: usize },
     Splits { n: usize, listing: Vec<u16>, room: usize },
     Pairing { n: usize, listing: Vec<u16>, question: Vec<u16> },
     Table { n: usize, listing: Vec<u16>, room: usize },
@@ -158,6 +163,11 @@ fn settle_number(got: u64, due: Answer<Vec<u8>>, out: &Lent<u8>) -> Result<Outco
     Ok(Outcome { reply: got, written: written.into_iter().map(i64::from).collect() })
 }
 
+/// Compares the reply and the listing of an operation that makes a tree record: its origin is the figure.
+fn settle_record(got: u64, due: Answer<TreeRecord>, out: &Lent<u16>) -> Result<Outcome, String> {
+    settle_output(got, due.map(|record| (record.origin.number(), record.listing)), out)
+}
+
 /// An accepted call with an output and no number.
 fn no_number<T>(answer: Answer<Vec<T>>) -> Answer<(u64, Vec<T>)> {
     answer.map(|written| (0, written))
@@ -168,6 +178,7 @@ impl Case {
         match self {
             Case::Check { .. } => Kind::Check,
             Case::Standardise { .. } => Kind::Standardise,
+            Case::Restandardise { .. } => Kind::Restandardise,
             Case::Splits { .. } => Kind::Splits,
             Case::Pairing { .. } => Kind::Pairing,
             Case::Table { .. } => Kind::Table,
@@ -202,6 +213,16 @@ impl Case {
                 let got = part::standardise(*n, &mut listing, &mut out);
                 listing.unchanged()?;
                 settle_output(got, no_number(due), &out)
+            }
+            Case::Restandardise { n, origin, listing, room } => {
+                let record = TreeRecord { leaves: *n, listing: listing.clone(), origin: Origin::from_number(*origin) };
+                let due = origin::restandardise(&record, *room);
+                look_at_record(&record, &due)?;
+                let mut listing = Lent::input("listing", listing, chance);
+                let mut out = Lent::output("standard listing", *room, chance);
+                let got = part::restandardise(*n, *origin, &mut listing, &mut out);
+                listing.unchanged()?;
+                settle_record(got, due, &out)
             }
             Case::Splits { n, listing, room } => {
                 let due = tree::splits(*n, listing, *room);
@@ -241,17 +262,17 @@ impl Case {
             }
             Case::Rebuild { n, poll, table, room } => {
                 let due = merge::rebuild(*n, *poll, table, *room, chance);
-                look_at_rebuilt(*n, *poll, table, &due, every, chance)?;
+                look_at_rebuilt(*n, *poll, table, &listing_of(&due), every, chance)?;
                 let mut table = Lent::input("table", table, chance);
                 let mut out = Lent::output("standard listing", *room, chance);
                 let got = part::rebuild(*n, *poll, &mut table, &mut out);
                 table.unchanged()?;
-                settle_output(got, no_number(due), &out)
+                settle_record(got, due, &out)
             }
             Case::Guided { n, poll, table, merges, room } => {
                 let due = merge::rebuild_guided(*n, *poll, table, merges, *room);
                 if due.is_ok() {
-                    look_at_rebuilt(*n, *poll, table, &due, every, chance)?;
+                    look_at_rebuilt(*n, *poll, table, &listing_of(&due), every, chance)?;
                 }
                 let mut table = Lent::input("table", table, chance);
                 let mut merges = Lent::input("merges", merges, chance);
@@ -259,7 +280,7 @@ impl Case {
                 let got = part::rebuild_guided(*n, *poll, &mut table, &mut merges, &mut out);
                 table.unchanged()?;
                 merges.unchanged()?;
-                settle_output(got, no_number(due), &out)
+                settle_record(got, due, &out)
             }
             Case::Poll { n, records, room } => {
                 let due = poll::poll(*n, records, *room);
@@ -321,7 +342,7 @@ impl Case {
                 let got = part::import(&mut sheet, &mut text, &mut out);
                 sheet.unchanged()?;
                 text.unchanged()?;
-                settle_output(got, no_number(due), &out)
+                settle_record(got, due, &out)
             }
         }
     }
@@ -337,6 +358,18 @@ fn look_at_standard(n: usize, listing: &[u16], due: &Answer<Vec<u16>>) -> Result
     let Ok(standard) = due else { return Ok(()) };
     agreed(Tree::from_listing(n, listing) == Tree::from_listing(n, standard), "standard listing of another tree")?;
     agreed(tree::standardise(n, standard, standard.len()) == *due, "standard listing of a standard listing")
+}
+
+/// The listing of a record.
+fn listing_of(due: &Answer<TreeRecord>) -> Answer<Vec<u16>> {
+    due.clone().map(|record| record.listing)
+}
+
+/// A record that is restandardised is of the same tree and origin, whatever this is.
+fn look_at_record(record: &TreeRecord, due: &Answer<TreeRecord>) -> Result<(), String> {
+    look_at_standard(record.leaves, &record.listing, &listing_of(due))?;
+    let Ok(again) = due else { return Ok(()) };
+    agreed((again.leaves, again.origin) == (record.leaves, record.origin), "restandardised record of another origin")
 }
 
 /// The two ways of counting give the same cells, or one cell straight from the definition does. Every quartet stands
@@ -405,7 +438,7 @@ fn look_at_export(sheet: &[u8], listing: &[u16], due: &Answer<Vec<u8>>) -> Resul
     let names: usize = (0..n).map(|leaf| sheet::sheet_name(sheet, leaf).map_or(0, |name| name.len())).sum();
     agreed(text.len() == names + 3 * n - 4, "length of an export")?;
     let standard = tree::standardise(n, listing, listing.len());
-    agreed(newick::import(sheet, text, listing.len()) == standard, "import of an export")
+    agreed(listing_of(&newick::import(sheet, text, listing.len())) == standard, "import of an export")
 }
 
 /// How long a text may be of which every completion is tried.
@@ -413,9 +446,9 @@ const TRIED: usize = 400;
 
 /// The listing of an imported text, exported and imported again, is the same. Where the grammar is broken, the bytes up
 /// to there begin a right text, and with one byte more they begin none.
-fn look_at_import(sheet: &[u8], text: &[u8], due: &Answer<Vec<u16>>) -> Result<(), String> {
+fn look_at_import(sheet: &[u8], text: &[u8], due: &Answer<TreeRecord>) -> Result<(), String> {
     match due {
-        Ok(listing) => {
+        Ok(TreeRecord { listing, .. }) => {
             let again = newick::export(sheet, listing, usize::MAX)
                 .and_then(|export| newick::import(sheet, &export, listing.len()));
             agreed(again == *due, "import of the export of an import")

@@ -25,6 +25,12 @@ pub fn any_case(kind: Kind, chance: &mut Chance) -> Case {
             let listing = lent_listing(n, chance);
             Case::Standardise { n, listing, room: lent_room(listing_length(n, chance), chance) }
         }
+        Kind::Restandardise => {
+            let n = lent_count(chance);
+            let listing = lent_listing(n, chance);
+            let room = lent_room(listing_length(n, chance), chance);
+            Case::Restandardise { n, origin: lent_origin(chance), listing, room }
+        }
         Kind::Splits => {
             let n = lent_count(chance);
             let listing = lent_listing(n, chance);
@@ -251,6 +257,18 @@ fn lent_listing(n: usize, chance: &mut Chance) -> Vec<u16> {
         spoil_length(&mut listing, chance);
     }
     listing
+}
+
+/// Numbers of no origin, some of which have an origin's number in their low bits.
+pub const NO_ORIGINS: [u32; 11] = [5, 6, 7, 8, 255, 256, 257, 1 << 16, (1 << 16) + 2, 1 << 31, u32::MAX];
+
+/// An origin's number, or one above 4, whose low bits may be those of an origin's.
+fn lent_origin(chance: &mut Chance) -> u32 {
+    match chance.below(4) {
+        0 => chance.of(&NO_ORIGINS),
+        1 => u32::any(chance),
+        _ => chance.below(5) as u32,
+    }
 }
 
 fn spoil_child(n: usize, listing: &mut [u16], chance: &mut Chance) {

@@ -3,6 +3,7 @@
 //! Each case states what the paper says of it; the part and the reference both have to give it.
 
 use crate::cases::{Case, Outcome};
+use crate::draw::NO_ORIGINS;
 use crate::poll::Record;
 use crate::sheet;
 use crate::table::{put, quartets, scaled, COUNTS, POLL};
@@ -16,6 +17,11 @@ pub enum Due {
     /// Refused: number and figure.
     Refused(u64, u64),
 }
+
+/// The numbers of origins, which are figures of accepted calls.
+pub const REBUILT: u64 = 0;
+const LISTED: u64 = 1;
+const IMPORTED: u64 = 2;
 
 pub struct Known {
     pub name: &'static str,
@@ -130,6 +136,7 @@ fn p7_poll() -> Vec<Record> {
 pub fn known_cases() -> Vec<Known> {
     let mut cases = rebuilds();
     cases.extend(listings());
+    cases.extend(records());
     cases.extend(tables());
     cases.extend(counts());
     cases.extend(lengths());
@@ -147,7 +154,7 @@ fn rebuilds() -> Vec<Known> {
     let rebuilt = |name, n, table, listing: &[u16]| Known {
         name,
         case: Case::Rebuild { n, poll: COUNTS, table, room: 2 * (n - 2) },
-        due: Due::Written(0, wide(listing)),
+        due: Due::Written(REBUILT, wide(listing)),
     };
     let refused = |name, n, table, number, figure| Known {
         name,
@@ -174,7 +181,7 @@ fn rebuilds() -> Vec<Known> {
         refused("P6", 4, table(4, &[(0, 1, 1)], 0), 6, 0),
         rebuilt("P7", 5, p7(), &P7_LISTING),
         rebuilt("P8", 6, table(6, &[(0, 1, 6), (2, 3, 6), (4, 5, 6)], 1), &[2, 3, 4, 5, 6, 7, 1, 8]),
-        guided("P12", [3, 4, 0, 1, 2, 3, 0, 2], Due::Written(0, wide(&P7_LISTING))),
+        guided("P12", [3, 4, 0, 1, 2, 3, 0, 2], Due::Written(REBUILT, wide(&P7_LISTING))),
         guided("P12 guided from 0 2", [0, 2, 3, 4, 0, 1, 2, 3], Due::Refused(12, 0)),
         guided("P12 with one subtree twice at step 2", [3, 4, 0, 1, 4, 3, 0, 2], Due::Refused(12, 2)),
         guided("P12 with leaf 5 at step 3", [3, 4, 0, 1, 2, 3, 0, 5], Due::Refused(12, 3)),
@@ -233,6 +240,27 @@ fn listings() -> Vec<Known> {
     ]
 }
 
+/// P7's tree and P9's to P11's listings as records of every origin, and of numbers that name none and are taken as
+/// listed. A refusal has its own figure, whatever the origin is.
+fn records() -> Vec<Known> {
+    let mut known = Vec::new();
+    for (origin, figure) in (0..5).map(|origin| (origin, origin.into())).chain(NO_ORIGINS.map(|none| (none, LISTED))) {
+        let mut put = |n, listing: &[u16], room, due| {
+            let case = Case::Restandardise { n, origin, listing: listing.into(), room };
+            known.push(Known { name: "a record of any origin", case, due });
+        };
+        put(5, &P7_LISTING, 6, Due::Written(figure, wide(&P7_LISTING)));
+        put(5, &[4, 3, 5, 2, 6, 1], 7, Due::Written(figure, wide(&P7_LISTING)));
+        put(4, &[2, 3, 4, 1], 4, Due::Written(figure, vec![2, 3, 1, 4]));
+        put(4, &[2, 2, 1, 4], 4, Due::Refused(8, 1));
+        put(4, &[2, 4, 1, 3], 4, Due::Refused(7, 1));
+        put(4, &[2, 2, 1, 4], 3, Due::Refused(3, 0));
+        put(4, &[2, 2, 1], 3, Due::Refused(2, 0));
+        put(2, &[], 0, Due::Refused(1, 0));
+    }
+    known
+}
+
 fn tables() -> Vec<Known> {
     let (n, top) = (128, u32::MAX);
     let gap = |name, n: usize, table, listing: &[u16], cells| Known {
@@ -272,6 +300,7 @@ fn counts() -> Vec<Known> {
         let cases = [
             Case::Check { n, listing: listing.clone() },
             Case::Standardise { n, listing: listing.clone(), room },
+            Case::Restandardise { n, origin: 0, listing: listing.clone(), room },
             Case::Splits { n, listing: listing.clone(), room },
             Case::Pairing { n, listing: listing.clone(), question: vec![0, 1, 2, 3] },
             Case::Table { n, listing: listing.clone(), room },
@@ -306,12 +335,13 @@ fn longer<T: Copy>(lent: &[T]) -> Vec<T> {
 
 /// Lengths whose lower 16 bits look otherwise than they are: an input too long by FAR is refused, room for FAR is enough.
 fn lengths() -> Vec<Known> {
-    let n = 5;
+    let (n, origin) = (5, IMPORTED as u32);
     let (listing, table, question) = (P7_LISTING.to_vec(), p7(), vec![0, 1, 3, 4]);
     let merges: Vec<u16> = vec![3, 4, 0, 1, 2, 3, 0, 2];
     let inputs = [
         Case::Check { n, listing: longer(&listing) },
         Case::Standardise { n, listing: longer(&listing), room: 6 },
+        Case::Restandardise { n, origin, listing: longer(&listing), room: 6 },
         Case::Splits { n, listing: longer(&listing), room: 32 },
         Case::Pairing { n, listing: longer(&listing), question: question.clone() },
         Case::Pairing { n, listing: listing.clone(), question: longer(&question) },
@@ -337,13 +367,14 @@ fn lengths() -> Vec<Known> {
     let (export, text) = (Due::Written(P7_TEXT.len() as u64, wide(P7_TEXT)), P7_TEXT.to_vec());
     let rooms = [
         (Case::Export { sheet: PAPER_SHEET.into(), listing: listing.clone(), room: FAR }, export),
-        (Case::Import { sheet: PAPER_SHEET.into(), text, room: FAR }, Due::Written(0, rows.clone())),
+        (Case::Import { sheet: PAPER_SHEET.into(), text, room: FAR }, Due::Written(IMPORTED, rows.clone())),
         (Case::Standardise { n, listing: listing.clone(), room: FAR }, Due::Written(0, rows.clone())),
+        (Case::Restandardise { n, origin, listing: listing.clone(), room: FAR }, Due::Written(IMPORTED, rows.clone())),
         (Case::Splits { n, listing: listing.clone(), room: FAR }, Due::Written(0, p7_splits())),
         (Case::Table { n, listing: listing.clone(), room: FAR }, Due::Written(0, cells.clone())),
         (Case::Gap { n, poll: COUNTS, table: table.clone(), listing, room: FAR }, Due::Written(0, vec![0; 25])),
-        (Case::Rebuild { n, poll: COUNTS, table: table.clone(), room: FAR }, Due::Written(0, rows.clone())),
-        (Case::Guided { n, poll: COUNTS, table, merges, room: FAR }, Due::Written(0, rows)),
+        (Case::Rebuild { n, poll: COUNTS, table: table.clone(), room: FAR }, Due::Written(REBUILT, rows.clone())),
+        (Case::Guided { n, poll: COUNTS, table, merges, room: FAR }, Due::Written(REBUILT, rows)),
         (Case::Poll { n, records: p7_poll(), room: FAR }, Due::Written(0, sixths)),
         (Case::SheetTable { sheet: PAPER_SHEET.into(), room: FAR }, Due::Written(5, cells)),
         (Case::RebuildSheet { sheet: PAPER_SHEET.into(), room: FAR }, Due::Written(0, bytes)),
@@ -404,7 +435,7 @@ fn polled_tables() -> Vec<Known> {
     let (n, room) = (5, 6);
     let merges: Vec<u16> = vec![3, 4, 0, 1, 2, 3, 0, 2];
     let sixths = scaled(&p7(), 6);
-    let rebuilt = || Due::Written(0, wide(&P7_LISTING));
+    let rebuilt = || Due::Written(REBUILT, wide(&P7_LISTING));
     let changed = |i, j, value| {
         let mut cells = sixths.clone();
         put(&mut cells, n, (i, j), value);
@@ -540,7 +571,7 @@ fn import(name: &'static str, text: impl Into<Vec<u8>>, due: Due) -> Known {
 }
 
 fn imports() -> Vec<Known> {
-    let same = |text: &'static str| import("a text of P7's tree", text, Due::Written(0, wide(&P7_LISTING)));
+    let same = |text: &'static str| import("a text of P7's tree", text, Due::Written(IMPORTED, wide(&P7_LISTING)));
     let broken = |text: &'static str, offset| import("a broken text", text, Due::Refused(17, offset));
     let refused = |name, text: &'static str, number| import(name, text, Due::Refused(number, 0));
     let with = |name, sheet: Vec<u8>, text: &[u8], room, due| Known {
@@ -548,7 +579,7 @@ fn imports() -> Vec<Known> {
         case: Case::Import { sheet, text: text.into(), room },
         due,
     };
-    let three_leaves = || Due::Written(0, vec![1, 2]);
+    let three_leaves = || Due::Written(IMPORTED, vec![1, 2]);
     let (equal, bad) = (three([b"a", b"b", b"a"]), three([b"a", b"_", b"a"]));
     vec![
         same("(a,b,(c,(d,e)));"),
@@ -626,7 +657,7 @@ fn imports() -> Vec<Known> {
         refused("a node of one part after a name twice", "(a,a,(b));", 18),
         with("names like lengths", three([b"1e-3", b"-", b"."]), b"(-:-,.:.,1e-3:1e-3);", 2, three_leaves()),
         with("names that begin others", three([b"a", b"ab", b"abc"]), b"(abc,(ab,a));", 2, three_leaves()),
-        with("a node first", four(), b"((b,d),(-.,a0));", 4, Due::Written(0, vec![1, 3, 4, 2])),
+        with("a node first", four(), b"((b,d),(-.,a0));", 4, Due::Written(IMPORTED, vec![1, 3, 4, 2])),
         with("14 before a short output", trailer(3, 9), b"", 0, Due::Refused(14, 0)),
         with("a short output before 15", bad.clone(), b"", 1, Due::Refused(3, 0)),
         with("15 before 17", bad, b"", 2, Due::Refused(15, 1)),
@@ -661,14 +692,15 @@ fn long_texts() -> Vec<Known> {
         case: Case::Import { sheet: longest_sheet(), text: text.into(), room: 252 },
         due,
     };
-    let same = || Due::Written(0, wide(&P7_LISTING));
+    let same = || Due::Written(IMPORTED, wide(&P7_LISTING));
+    let drawn_comb = || Due::Written(IMPORTED, wide(&comb(128)));
     let (deepest, one_more) = (comb_text(&names[..128]), comb_text(&names));
     let own_offset = one_more.match_indices('(').nth(127).expect("128 brackets").0 as u64;
     let a_times = |times| format!("({},(b,(c,(d,e))));", paired(vec!["a".into(); times]));
     let wide_node = |parts: usize| format!("((a{}),b,(c,(d,e)));", ",a".repeat(parts - 1));
     vec![
-        longest("a comb 127 deep", deepest.clone(), Due::Written(0, wide(&comb(128)))),
-        longest("a comb 127 deep, with blanks", deepest.replace(',', " , "), Due::Written(0, wide(&comb(128)))),
+        longest("a comb 127 deep", deepest.clone(), drawn_comb()),
+        longest("a comb 127 deep, with blanks", deepest.replace(',', " , "), drawn_comb()),
         longest("a comb 128 deep", one_more.clone(), Due::Refused(17, own_offset)),
         longest(
             "a comb 128 deep that stops there",

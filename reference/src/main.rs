@@ -1,10 +1,11 @@
 //! The reference: another program, written from the paper alone, whose results are compared with the part's.
 //!
-//! `reference [N [SEED]]` compares, in this order: the paper's own cases; every tree of 3 to 6 leaves, and one of every
-//! shape of 32, 127 and 128; the polls of trees' own pairings; every listing, question, list of proposals and poll of
-//! very few, every text of up to six bytes and every text close to a right one; and N rounds (20,000 if not given) from
-//! SEED on (1 if not given), each with one case of every kind. It also tries demand 3 on the reference's own merging,
-//! over every finished list of small tables. The first difference stops it.
+//! `reference [N [SEED]]` compares, in this order: the paper's own cases; every tree of 3 to 6 leaves, its records also
+//! handed from one operation to the next, and one of every shape of 32, 127 and 128; the polls of trees' own pairings;
+//! every listing, question, list of proposals and poll of very few, every text of up to six bytes and every text close
+//! to a right one; and N rounds (20,000 if not given) from SEED on (1 if not given), each with one case of every kind.
+//! It also tries demand 3 on the reference's own merging, over every finished list of small tables. The first
+//! difference stops it.
 
 mod cases;
 mod chance;
@@ -14,6 +15,7 @@ mod known;
 mod merge;
 mod newick;
 mod operations;
+mod origin;
 mod part;
 mod poll;
 mod refuse;
@@ -27,7 +29,7 @@ mod watch;
 use cases::{Case, Kind};
 use chance::Chance;
 use every::Every;
-use known::{known_cases, Known};
+use known::{known_cases, Due, Known, REBUILT};
 use std::collections::BTreeMap;
 use std::process::exit;
 use std::time::Instant;
@@ -146,11 +148,44 @@ impl Comparison {
                 watch::note(&origin);
                 let mut chance = Chance::new(n as u64, place as u64);
                 for case in operations::cases_of_tree(tree, &mut chance) {
-                    self.put(&case, &origin, &mut chance)?;
+                    let made = self.put(&case, &origin, &mut chance)?;
+                    self.hand_on(n, &case, made, &origin, &mut chance)?;
                 }
             }
         }
         Ok(())
+    }
+
+    /// Hands the record that a case has made to the next operation. Restandardised from any listing of its tree it is
+    /// the same record; and where it is marked rebuilt, its tree has the table that the rebuild was given.
+    fn hand_on(
+        &mut self,
+        n: usize,
+        case: &Case,
+        made: cases::Outcome,
+        origin: &str,
+        chance: &mut Chance,
+    ) -> Result<(), String> {
+        let given = match case {
+            Case::Rebuild { poll, table, .. } | Case::Guided { poll, table, .. } => Some((*poll, table.clone())),
+            Case::Import { .. } => None,
+            _ => return Ok(()),
+        };
+        let mark = made.reply >> 8;
+        let listing: Vec<u16> = made.written.iter().map(|&child| child as u16).collect();
+        let other = draw::any_listing(&Tree::from_listing(n, &listing), chance);
+        let again = Case::Restandardise { n, origin: mark as u32, listing: other, room: listing.len() };
+        let due = Due::Written(mark, made.written);
+        self.put_known(&Known { name: "a record restandardised", case: again, due }, origin, chance)?;
+        match given {
+            Some((poll, table)) if mark == REBUILT => {
+                let gap = Case::Gap { n, poll, table, listing, room: n * n };
+                let due = Due::Written(0, vec![0; n * n]);
+                self.put_known(&Known { name: "the gap of a record marked rebuilt", case: gap, due }, origin, chance)
+            }
+            None if mark == REBUILT => Err(format!("{origin}: a record is marked rebuilt, and no table was given")),
+            _ => Ok(()),
+        }
     }
 
     /// Trees of the most leaves that polls and the other operations take, of every shape, in every operation.

@@ -5,6 +5,7 @@
 //! poll's table. Merging adds P(b) to m of A's leaves and P(a) to m of B's.
 
 use crate::chance::Chance;
+use crate::origin::{Origin, TreeRecord};
 use crate::refuse::{judge, judge_input, judge_room, judge_table_count, Answer, Refusal};
 use crate::table::{judge_cells, pairs_of, times};
 use crate::tree::{members, single, size, LeafSet, Tree};
@@ -88,17 +89,18 @@ pub fn finished_list(n: usize, poll: u32, table: &[u32], chance: &mut Chance) ->
 }
 
 /// The tree rebuilt from a table by merges of our own choice: 1, 2, 3, 4, 5, 6.
-pub fn rebuild(n: usize, poll: u32, table: &[u32], room: usize, chance: &mut Chance) -> Answer<Vec<u16>> {
+pub fn rebuild(n: usize, poll: u32, table: &[u32], room: usize, chance: &mut Chance) -> Answer<TreeRecord> {
     judge_table_count(n, poll)?;
     judge_input(table.len(), n * n)?;
     judge_room(room, 2 * (n - 2))?;
     judge_cells(n, table)?;
     let (_, tree) = finished_list(n, poll, table, chance);
-    Ok(tree.ok_or(Refusal::NoTree)?.standard_listing())
+    let listing = tree.ok_or(Refusal::NoTree)?.standard_listing();
+    Ok(TreeRecord { leaves: n, listing, origin: Origin::Rebuilt })
 }
 
 /// The tree rebuilt by a lent list of n−1 proposed pairs of leaf numbers: 1, 2, 3, 4, 5, 12.
-pub fn rebuild_guided(n: usize, poll: u32, table: &[u32], merges: &[u16], room: usize) -> Answer<Vec<u16>> {
+pub fn rebuild_guided(n: usize, poll: u32, table: &[u32], merges: &[u16], room: usize) -> Answer<TreeRecord> {
     judge_table_count(n, poll)?;
     judge_input(table.len(), n * n)?;
     judge_input(merges.len(), 2 * (n - 1))?;
@@ -112,5 +114,6 @@ pub fn rebuild_guided(n: usize, poll: u32, table: &[u32], merges: &[u16], room: 
         judge(pair[0] != pair[1] && merging.eligible(pair[0], pair[1]), Refusal::Proposal { step })?;
         merging.merge(pair);
     }
-    Ok(merging.tree().expect("n−1 merges leave one tree").standard_listing())
+    let listing = merging.tree().expect("n−1 merges leave one tree").standard_listing();
+    Ok(TreeRecord { leaves: n, listing, origin: Origin::Rebuilt })
 }

@@ -6,6 +6,7 @@
 //! length. The text is read by a function for each of these sentences; where one of them finds neither what is due nor
 //! a blank, the text breaks the grammar.
 
+use crate::origin::{Origin, TreeRecord};
 use crate::refuse::{judge, judge_input, judge_room, Answer, Refusal};
 use crate::sheet::{fits_in_name, judge_ends, judge_names, judge_offset, judge_trailer, Figures};
 use crate::tree::{judge_children, least, single, size, LeafSet, Node, Tree};
@@ -176,12 +177,13 @@ fn tree_drawn(top: &Drawing, strains: &[&[u8]]) -> Answer<Tree> {
     Ok(Tree::from_sides(strains.len(), sides))
 }
 
-/// The standard listing of the tree that a text draws with a sheet's names: 13, 1, 14, 3, 15, 16, 17, 18, 19.
-pub fn import(sheet: &[u8], text: &[u8], room: usize) -> Answer<Vec<u16>> {
+/// The record of the tree that a text draws with a sheet's names: 13, 1, 14, 3, 15, 16, 17, 18, 19.
+pub fn import(sheet: &[u8], text: &[u8], room: usize) -> Answer<TreeRecord> {
     let figures = judge_trailer(sheet)?;
     judge_room(room, 2 * (figures.n - 2))?;
     let strains = strains(sheet, figures)?;
-    Ok(tree_drawn(&read(text)?, &strains)?.standard_listing())
+    let listing = tree_drawn(&read(text)?, &strains)?.standard_listing();
+    Ok(TreeRecord { leaves: figures.n, listing, origin: Origin::Imported })
 }
 
 /// The text of the leaves under a node: a leaf's name, or a bracket with the node's two children.

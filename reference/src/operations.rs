@@ -3,7 +3,7 @@
 use crate::cases::Case;
 use crate::chance::Chance;
 use crate::draw;
-use crate::known::{Due, Known};
+use crate::known::{Due, Known, REBUILT};
 use crate::poll::{poll, LAST_CODE};
 use crate::table::{self, COUNTS, POLL};
 use crate::texts;
@@ -41,6 +41,7 @@ pub fn cases_of_tree(tree: &Tree, chance: &mut Chance) -> Vec<Case> {
     let mut cases = vec![
         Case::Check { n, listing: listing(chance) },
         Case::Standardise { n, listing: listing(chance), room: children },
+        Case::Restandardise { n, origin: chance.below(6) as u32, listing: listing(chance), room: children },
         Case::Splits { n, listing: listing(chance), room: 16 * (n - 3) },
         Case::Table { n, listing: listing(chance), room: cells },
         Case::Gap { n, poll: COUNTS, table: table.clone(), listing: listing(chance), room: cells },
@@ -81,7 +82,7 @@ pub fn own_poll(tree: &Tree, chance: &mut Chance) -> Vec<Known> {
     let (mut records, sixths) = (draw::poll_of_tree(tree), table::scaled(&table::by_far_sides(tree), 6));
     let (listing, wide) = (draw::any_listing(tree, chance), sixths.iter().map(|&cell| cell.into()).collect());
     let merges = draw::any_merges(n, POLL, &sixths, chance);
-    let standard = || Due::Written(0, tree.standard_listing().iter().map(|&child| child.into()).collect());
+    let standard = || Due::Written(REBUILT, tree.standard_listing().iter().map(|&child| child.into()).collect());
     let (name, table) = ("the poll of a tree's own pairings", sixths.clone());
     let mut known = vec![
         (Case::Poll { n, records: records.clone(), room: cells }, Due::Written(0, wide)),

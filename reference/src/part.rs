@@ -18,6 +18,14 @@ use self::own::*;
 unsafe extern "C" {
     fn quartree_check(n: usize, listing: *const u16, len: usize) -> u64;
     fn quartree_standardise(n: usize, listing: *const u16, len: usize, out: *mut u16, room: usize) -> u64;
+    fn quartree_restandardise(
+        n: usize,
+        origin: u32,
+        listing: *const u16,
+        len: usize,
+        out: *mut u16,
+        room: usize,
+    ) -> u64;
     fn quartree_splits(n: usize, listing: *const u16, len: usize, out: *mut u8, room: usize) -> u64;
     fn quartree_pairing(n: usize, listing: *const u16, len: usize, question: *const u16, question_len: usize) -> u64;
     fn quartree_table(n: usize, listing: *const u16, len: usize, out: *mut u32, room: usize) -> u64;
@@ -167,6 +175,10 @@ pub fn standardise(n: usize, listing: &mut Lent<u16>, out: &mut Lent<u16>) -> u6
     unsafe { quartree_standardise(n, listing.pointer(), listing.len(), out.pointer(), out.len()) }
 }
 
+pub fn restandardise(n: usize, origin: u32, listing: &mut Lent<u16>, out: &mut Lent<u16>) -> u64 {
+    unsafe { quartree_restandardise(n, origin, listing.pointer(), listing.len(), out.pointer(), out.len()) }
+}
+
 pub fn splits(n: usize, listing: &mut Lent<u16>, out: &mut Lent<u8>) -> u64 {
     unsafe { quartree_splits(n, listing.pointer(), listing.len(), out.pointer(), out.len()) }
 }
@@ -227,6 +239,7 @@ pub fn import(sheet: &mut Lent<u8>, text: &mut Lent<u8>, out: &mut Lent<u16>) ->
 #[cfg(own)]
 mod own {
     use crate::chance::Chance;
+    use crate::origin::{restandardise, Origin, TreeRecord};
     use crate::poll::Record;
     use crate::refuse::{reply, Answer};
     use crate::{merge, newick, poll, sheet, table, tree};
@@ -239,6 +252,12 @@ mod own {
             out[..result.len()].copy_from_slice(&result);
             0
         }))
+    }
+
+    /// Writes an accepted record's listing, and tells its origin.
+    unsafe fn give_record(answer: Answer<TreeRecord>, out: *mut u16, room: usize) -> u64 {
+        let origin = answer.as_ref().map_or(0, |record| record.origin.number());
+        unsafe { give(answer.map(|record| record.listing), out, room) | origin << 8 }
     }
 
     fn own_choice() -> Chance {
@@ -261,6 +280,20 @@ mod own {
     ) -> u64 {
         let listing = unsafe { from_raw_parts(listing, len) };
         unsafe { give(tree::standardise(n, listing, room), out, room) }
+    }
+
+    #[no_mangle]
+    pub unsafe extern "C" fn quartree_restandardise(
+        n: usize,
+        origin: u32,
+        listing: *const u16,
+        len: usize,
+        out: *mut u16,
+        room: usize,
+    ) -> u64 {
+        let listing = unsafe { from_raw_parts(listing, len) }.to_vec();
+        let record = TreeRecord { leaves: n, listing, origin: Origin::from_number(origin) };
+        unsafe { give_record(restandardise(&record, room), out, room) }
     }
 
     #[no_mangle]
@@ -324,7 +357,7 @@ mod own {
         room: usize,
     ) -> u64 {
         let table = unsafe { from_raw_parts(table, cells) };
-        unsafe { give(merge::rebuild(n, poll, table, room, &mut own_choice()), out, room) }
+        unsafe { give_record(merge::rebuild(n, poll, table, room, &mut own_choice()), out, room) }
     }
 
     #[no_mangle]
@@ -339,7 +372,7 @@ mod own {
         room: usize,
     ) -> u64 {
         let (table, merges) = unsafe { (from_raw_parts(table, cells), from_raw_parts(merges, len)) };
-        unsafe { give(merge::rebuild_guided(n, poll, table, merges, room), out, room) }
+        unsafe { give_record(merge::rebuild_guided(n, poll, table, merges, room), out, room) }
     }
 
     #[no_mangle]
@@ -412,6 +445,6 @@ mod own {
         room: usize,
     ) -> u64 {
         let (sheet, text) = unsafe { (from_raw_parts(sheet, sheet_len), from_raw_parts(text, text_len)) };
-        unsafe { give(newick::import(sheet, text, room), out, room) }
+        unsafe { give_record(newick::import(sheet, text, room), out, room) }
     }
 }

@@ -17,7 +17,12 @@ fn every_list(length: usize, most: usize) -> impl Iterator<Item = Vec<u16>> {
 pub fn every_listing() -> impl Iterator<Item = Case> {
     (3..=4).flat_map(|n| {
         every_list(2 * (n - 2), 2 * n - 2).flat_map(move |listing| {
-            [Case::Check { n, listing: listing.clone() }, Case::Standardise { n, listing, room: 2 * (n - 2) }]
+            let room = 2 * (n - 2);
+            [
+                Case::Check { n, listing: listing.clone() },
+                Case::Standardise { n, listing: listing.clone(), room },
+                Case::Restandardise { n, origin: 2, listing, room },
+            ]
         })
     })
 }

@@ -1,6 +1,8 @@
 // Lines that the programs which run cases print.
 use refusals::Outcome;
 use refusals::Refusal;
+use tree_records::Origin;
+use tree_records::TreeOutcome;
 
 // These words, a number and the end of the line.
 pub fn say_number(words: &[u8], number: u64) {
@@ -36,6 +38,36 @@ pub fn say(words: &[u8], answer: Outcome) {
         return;
     };
     say_cause(cause);
+}
+
+// Where a tree came from.
+fn say_origin(origin: Origin) {
+    match origin {
+        Origin::Rebuilt => {
+            io::write_all(1, b"rebuilt\n");
+        }
+        Origin::Listed => {
+            io::write_all(1, b"listed\n");
+        }
+        Origin::Imported => {
+            io::write_all(1, b"imported\n");
+        }
+        Origin::Guessed => {
+            io::write_all(1, b"guessed\n");
+        }
+        Origin::Grafted => {
+            io::write_all(1, b"grafted\n");
+        }
+    }
+}
+
+// These words, and where the tree came from that an operation made, or why it refused.
+pub fn say_tree(words: &[u8], answer: TreeOutcome) {
+    io::write_all(1, words);
+    match answer {
+        TreeOutcome::Marked(origin) => say_origin(origin),
+        TreeOutcome::Refused(cause) => say_cause(cause),
+    }
 }
 
 fn say_entry(number: u16) {

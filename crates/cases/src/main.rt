@@ -1,7 +1,10 @@
-// Runs the cases of trees and tables that the scope gives and no theorem lists.
+// Runs the cases of trees and tables that the scope gives and no theorem lists, and some of tree records.
 use case_lines::say;
+use case_lines::say_listing;
+use case_lines::say_tree;
 use limits::Kind;
 use refusals::Outcome;
+use tree_records::Origin;
 ghost use mathlib.Core.Path.{_≡_};
 ghost use lib.ListN.{length};
 ghost use Rattle.limits.specs.Limits.{most-numbers};
@@ -61,7 +64,7 @@ fn leaf_count(what: &[u8], n: usize) {
     io::write_all(1, b"check, table and rebuild, ");
     say(what, listings::check(n, &listing));
     say(b"", tree_tables::table(n, &listing, &mut cells));
-    say(
+    say_tree(
         b"",
         own_rebuild::rebuild(Kind::Counts, n, &cells, &mut rebuilt),
     );
@@ -73,7 +76,32 @@ fn leaf_counts() {
     leaf_count(b"the most leaves:\n", limits::MOST_LEAVES);
 }
 
+// A record of five leaves restandardised.
+fn restandardise(words: &[u8], origin: Origin, listing: &[u16]) {
+    let mut standard = [9u16; 6];
+    say_tree(
+        words,
+        standard_listings::restandardise(5, origin, listing, &mut standard),
+    );
+    say_listing(&standard);
+}
+
+// P7's tree as another listing, lent and then restandardised, whatever its origin; and a listing that breaks the rules.
+fn records() {
+    let listing: [u16; 6] = [4, 3, 5, 2, 6, 1];
+    say_tree(b"lend 4 3 5 2 6 1: ", listings::lend(5, &listing));
+    restandardise(b"restandardise it, listed: ", Origin::Listed, &listing);
+    restandardise(b"restandardise it, imported: ", Origin::Imported, &listing);
+    restandardise(b"restandardise it, rebuilt: ", Origin::Rebuilt, &listing);
+    restandardise(
+        b"restandardise 4 3 5 2 6 5, rebuilt: ",
+        Origin::Rebuilt,
+        &[4, 3, 5, 2, 6, 5],
+    );
+}
+
 fn main() {
     gap_of_zeros();
     leaf_counts();
+    records();
 }

@@ -1,10 +1,10 @@
 -- Sizes: which refusal arises of a test that fails, what holds where none arises, and that what is due counts only
 -- where the leaf count is right.
-use mathlib.Core.Path.{_≡_, refl, sym, _∙_}
+use mathlib.Core.Path.{_≡_, sym, _∙_}
 use mathlib.Core.Logic.{inl, inr, _≢_}
 use mathlib.Core.Bool.{true, false}
 use mathlib.Core.List.{[], _∷_}
-use mathlib.Core.Option.{Option, none, some}
+use mathlib.Core.Option.{none, some}
 use Prim.Native.Nat.{ℕ, _≤_, _<_}
 use borrow.Author.Tests.{leb-true, eqb-true, le-leb, lt-leb, eq-eqb, ne-eqb}
 use lib.Dec.{leb, eqb}
@@ -15,7 +15,7 @@ use Rattle.limits.specs.Limits.{fewest-of, most-of, IsLeafCount, IsCountOf}
 use Rattle.limits.proofs.TableKinds.{leaf-count-of}
 use Rattle.refusals.specs.declared.Refusal.{Refusal}
 use Rattle.refusals.specs.declared.Refusal.the-variants.{LeafCount as Count, InputLength, OutputRoom}
-use Rattle.refusals.specs.Refusals.{refuse, judged}
+use Rattle.refusals.specs.Refusals.{judged}
 use Rattle.refusals.proofs.Answers.{refuse-passed, refuse-failed, refuse-none, judged-stops, judged-passes}
 use Rattle.refusals.proofs.Answers.{judged-none, judged-alone}
 use Rattle.refusals.proofs.Causes.{Arises, arises-judged, arises-last, arises-refuse}

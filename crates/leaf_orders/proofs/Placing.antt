@@ -1,6 +1,6 @@
 -- Numbers take their places from the last row down: each row gives its two children theirs, and no other row does, as
 -- each number is named once. So what a row gave stays.
-use mathlib.Core.Path.{_≡_, refl, sym, ap, _∙_}
+use mathlib.Core.Path.{_≡_, refl, ap, _∙_}
 use mathlib.Core.Logic.{_≢_}
 use mathlib.Core.List.{List}
 use Prim.Native.Nat.{ℕ, zero, suc, _+_, _-_, _*_, _≤_, _<_}

@@ -7,9 +7,10 @@ use Prim.Native.Nat.{ℕ, _-_, _*_, _≤_}
 use native.Mathlib.Omega.{arith}
 use lib.ListN.{length}
 use Rattle.limits.specs.declared.Kind.the-variants.{Counts}
+use Rattle.limits.specs.Limits.{IsLeafCount}
 use Rattle.refusals.specs.Refusals.{Answer, accepted, judged, unless}
 use Rattle.refusals.specs.Meanings.{refused-before, none-before}
-use Rattle.refusals.proofs.Answers.{judged-none, unless-passed, answered-accepted}
+use Rattle.refusals.proofs.Answers.{judged-none, unless-passed, unless-accepted, answered-accepted}
 use Rattle.refusals.proofs.Meanings.{unless-means}
 use Rattle.trees.specs.Listings.{KeepsRules, rules-refusal, tree-of, standard}
 use Rattle.trees.proofs.Rules.{listing-tree}
@@ -26,9 +27,9 @@ use Rattle.newick_rules.specs.Writings.{Right}
 use Rattle.newick_rules.specs.Exporting.{exported}
 use Rattle.newick_rules.specs.Importing.{deepest, imported}
 use Rattle.newick_rules.specs.Operations.{Strains, import-answer, export-answer}
-use Rattle.newick_rules.specs.Meanings.{Says, ImportMeans}
+use Rattle.newick_rules.specs.Meanings.{Imported, Says, ImportMeans}
 use Rattle.newick_rules.proofs.Exports.{import-export}
-use Rattle.newick_rules.proofs.Imports.{import-alike, import-says}
+use Rattle.newick_rules.proofs.Imports.{import-alike, import-says, import-right}
 use Rattle.newick_rules.proofs.OnlyTree.{says-only}
 
 -- the names of a sheet that is not refused
@@ -58,6 +59,18 @@ import-answer-says S t room =
     unless-means (Says n (names-of S) t) (sheet-refusal S due room) (imported (names-of S) t) (λ h.
     let count = accepted-sheet S n (offset-of S) due room (unfold sheet-refusal in h) .count in
     import-says n (names-of S) t count (sheet-strains S due room h))
+
+-- so a listing that it gives is that of the tree that the text draws
+pub import-answer-right :
+    (S t : List ℕ) (room : ℕ) (l : List ℕ) → import-answer S t room ≡ accepted l
+    → IsLeafCount (leaves-of S) × Imported (leaves-of S) (names-of S) t l
+unfolding import-answer
+import-answer-right S t room l e =
+    let n = leaves-of S in
+    let due = 2 * (n - 2) in
+    let a = unless-accepted (sheet-refusal S due room) (imported (names-of S) t) l e in
+    let count = accepted-sheet S n (offset-of S) due room (unfold sheet-refusal in a .0) .count in
+    (count, import-right n (names-of S) t l count (sheet-strains S due room (a .0)) (a .1))
 
 -- and no other answer means what import is to say
 pub import-fixed :

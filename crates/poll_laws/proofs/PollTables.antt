@@ -1,7 +1,7 @@
 -- The table of an accepted poll has a zero diagonal and equal halves: it passes 4 and 5. The idea: a record whose
 -- leaves rise adds nothing on the diagonal.
 use mathlib.Core.Path.{_≡_, refl}
-use mathlib.Core.List.{List, [], _∷_}
+use mathlib.Core.List.{List}
 use mathlib.Core.Option.{none}
 use Prim.Native.Nat.{ℕ}
 use native.Mathlib.Omega.{arith}

@@ -1,18 +1,23 @@
 // The C interface (include/quartree.h): one thin entry for each public operation.
 use limits::kind_of;
+use tree_records::origin_of;
 ghost use mathlib.Core.Path.{_≡_};
 ghost use Prim.Native.Nat.{_+_, _*_};
 ghost use lib.ListN.{length};
 ghost use Rattle.limits.specs.Limits.{kind-of};
 ghost use Rattle.refusals.specs.Refusals.{written};
 ghost use Rattle.refusals.specs.Meanings.{Gives};
+ghost use Rattle.tree_records.specs.declared.Origin.the-variants.{Rebuilt, Imported};
+ghost use Rattle.tree_records.specs.Origins.{origin-of};
+ghost use Rattle.tree_records.specs.Records.{marked};
 ghost use Rattle.listings.specs.Operations.{check-answer};
-ghost use Rattle.standard_listings.specs.Operations.{standardise-answer};
+ghost use Rattle.standard_listings.specs.Operations.{standardise-answer, restandardise-record};
 ghost use Rattle.splits.specs.Operations.{splits-answer};
 ghost use Rattle.pairings.specs.Operations.{lent-pairing-answer};
 ghost use Rattle.tree_tables.specs.Operations.{table-answer};
 ghost use Rattle.gaps.specs.Operations.{gap-answer};
-ghost use Rattle.rebuild_answers.specs.Operations.{rebuild-answer, guided-answer};
+ghost use Rattle.rebuild_answers.specs.Operations.{rebuild-answer, rebuild-record, guided-answer};
+ghost use Rattle.rebuild_answers.specs.Operations.{guided-record};
 ghost use Rattle.rebuild_answers.specs.Meanings.{RebuildMeans, GuidedMeans};
 ghost use Rattle.sheet_rules.specs.Sheets.{leaves-of, offset-of, name-start, name};
 ghost use Rattle.sheet_rules.specs.Operations.{check-sheet-answer};
@@ -20,10 +25,11 @@ ghost use Rattle.sheet_tables.specs.Operations.{sheet-table-answer};
 ghost use Rattle.sheet_names.specs.Operations.{name-answer};
 ghost use Rattle.sheet_trees.specs.Operations.{sheet-bytes-answer};
 ghost use Rattle.sheet_trees.specs.Meanings.{SheetBytesMean};
-ghost use Rattle.newick_rules.specs.Operations.{import-answer, export-answer};
+ghost use Rattle.newick_rules.specs.Operations.{import-answer, import-record, export-answer};
 ghost use Rattle.newick_rules.specs.Meanings.{ImportMeans};
 ghost use Rattle.poll_rules.specs.Operations.{poll-answer};
-ghost use Rattle.replies.specs.Replies.{reply, number-reply, length-reply, reply-with, number-alone};
+ghost use Rattle.replies.specs.Replies.{reply, number-reply, length-reply, reply-with, record-reply};
+ghost use Rattle.replies.specs.Replies.{number-alone};
 
 // Whether a listing keeps the rules: 1, 2, 7, 8.
 #[no_mangle]
@@ -41,6 +47,22 @@ pub extern "C" fn quartree_standardise(n: usize, listing: &[u16], out: &mut [u16
         ≡ written (standardise-answer n (now (listing .entry)) (length (now (out .entry)))) (now (out .entry)) ⌝ }
 {
     replies::reply_of(standard_listings::standardise(n, listing, out))
+}
+
+// The standard listing of a record's tree, and its origin's number as the figure: 1, 2, 3, 7, 8.
+#[no_mangle]
+pub extern "C" fn quartree_restandardise(
+    n: usize,
+    origin: u32,
+    listing: &[u16],
+    out: &mut [u16],
+) -> u64
+    ensures answer { λ r. ⌜ r ≡ record-reply
+        (restandardise-record n (now (listing .entry)) (origin-of origin) (length (now (out .entry)))) ⌝ }
+    ensures buffer { λ r. ⌜ now (out .exit)
+        ≡ written (standardise-answer n (now (listing .entry)) (length (now (out .entry)))) (now (out .entry)) ⌝ }
+{
+    replies::record_reply(standard_listings::restandardise(n, origin_of(origin), listing, out))
 }
 
 // The splits of the tree that a listing stands for, as leaf sets: 1, 2, 3, 7, 8.
@@ -89,21 +111,21 @@ pub extern "C" fn quartree_gap(
     replies::reply_of(gaps::gap(kind_of(poll), n, cells, listing, out))
 }
 
-// Our own rebuild: 1, 2, 3, 4, 5, 6.
+// Our own rebuild, and rebuilt as the figure: 1, 2, 3, 4, 5, 6.
 #[no_mangle]
 pub extern "C" fn quartree_rebuild(n: usize, poll: u32, cells: &[u32], out: &mut [u16]) -> u64
     ensures answer { λ r. ⌜ r
-        ≡ reply (rebuild-answer (kind-of poll) n (now (cells .entry)) (length (now (out .entry)))) ⌝ }
+        ≡ record-reply (rebuild-record (kind-of poll) n (now (cells .entry)) (length (now (out .entry)))) ⌝ }
     ensures buffer { λ r. ⌜ now (out .exit) ≡ written
         (rebuild-answer (kind-of poll) n (now (cells .entry)) (length (now (out .entry)))) (now (out .entry)) ⌝ }
-    ensures meaning { λ r. ⌜ Gives reply
+    ensures meaning { λ r. ⌜ Gives (λ a. record-reply (marked n Rebuilt a))
         (RebuildMeans (kind-of poll) n (now (cells .entry)) (length (now (out .entry)))) r
         (now (out .entry)) (now (out .exit)) ⌝ }
 {
-    replies::reply_of(own_rebuild::rebuild(kind_of(poll), n, cells, out))
+    replies::record_reply(own_rebuild::rebuild(kind_of(poll), n, cells, out))
 }
 
-// The guided rebuild: 1, 2, 3, 4, 5, 12.
+// The guided rebuild, and rebuilt as the figure: 1, 2, 3, 4, 5, 12.
 #[no_mangle]
 pub extern "C" fn quartree_rebuild_guided(
     n: usize,
@@ -112,16 +134,16 @@ pub extern "C" fn quartree_rebuild_guided(
     merges: &[u16],
     out: &mut [u16],
 ) -> u64
-    ensures answer { λ r. ⌜ r ≡ reply
-        (guided-answer (kind-of poll) n (now (cells .entry)) (now (merges .entry)) (length (now (out .entry)))) ⌝ }
+    ensures answer { λ r. ⌜ r ≡ record-reply
+        (guided-record (kind-of poll) n (now (cells .entry)) (now (merges .entry)) (length (now (out .entry)))) ⌝ }
     ensures buffer { λ r. ⌜ now (out .exit) ≡ written
         (guided-answer (kind-of poll) n (now (cells .entry)) (now (merges .entry)) (length (now (out .entry))))
         (now (out .entry)) ⌝ }
-    ensures meaning { λ r. ⌜ Gives reply
+    ensures meaning { λ r. ⌜ Gives (λ a. record-reply (marked n Rebuilt a))
         (GuidedMeans (kind-of poll) n (now (cells .entry)) (now (merges .entry)) (length (now (out .entry)))) r
         (now (out .entry)) (now (out .exit)) ⌝ }
 {
-    replies::reply_of(guided_rebuild::rebuild_guided(kind_of(poll), n, cells, merges, out))
+    replies::record_reply(guided_rebuild::rebuild_guided(kind_of(poll), n, cells, merges, out))
 }
 
 // Whether a sheet keeps the rules, and its leaf count as the figure: 13, 1, 14, 15, 16.
@@ -171,20 +193,20 @@ pub extern "C" fn quartree_export(sheet: &[u8], listing: &[u16], text: &mut [u8]
     replies::reply_with(exported.length, outcome)
 }
 
-// The standard listing of the tree that a Newick text draws, with the names of a sheet: 13, 1, 14, 3, 15, 16, 17, 18,
-// 19.
+// The standard listing of the tree that a Newick text draws, with the names of a sheet, and imported as the figure: 13,
+// 1, 14, 3, 15, 16, 17, 18, 19.
 #[no_mangle]
 pub extern "C" fn quartree_import(sheet: &[u8], text: &[u8], out: &mut [u16]) -> u64
     ensures answer { λ r. ⌜ r
-        ≡ reply (import-answer (now (sheet .entry)) (now (text .entry)) (length (now (out .entry)))) ⌝ }
+        ≡ record-reply (import-record (now (sheet .entry)) (now (text .entry)) (length (now (out .entry)))) ⌝ }
     ensures buffer { λ r. ⌜ now (out .exit)
         ≡ written (import-answer (now (sheet .entry)) (now (text .entry)) (length (now (out .entry))))
         (now (out .entry)) ⌝ }
-    ensures meaning { λ r. ⌜ Gives reply
+    ensures meaning { λ r. ⌜ Gives (λ a. record-reply (marked (leaves-of (now (sheet .entry))) Imported a))
         (ImportMeans (now (sheet .entry)) (now (text .entry)) (length (now (out .entry)))) r
         (now (out .entry)) (now (out .exit)) ⌝ }
 {
-    replies::reply_of(newick_import::import(sheet, text, out))
+    replies::record_reply(newick_import::import(sheet, text, out))
 }
 
 // A poll added up: 1, 2, 3, 10, 11.

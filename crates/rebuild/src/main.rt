@@ -1,6 +1,6 @@
 // Reads a strain sheet from standard input and prints its tree: the leaf count, one line a row (node, first child,
 // second child), and `end`; or, if the answer holds no tree, `refused` and the number.
-use refusals::Outcome;
+use tree_records::TreeOutcome;
 ghost use Prim.Native.Nat.{_≤_};
 ghost use Rattle.limits.specs.Limits.{most-leaves};
 
@@ -38,9 +38,9 @@ fn main() {
     let got = io::read_full(0, &mut input);
     let mut listing = [0u16; LISTING];
     let answer = sheet_trees::listing_of(&input[..got], &mut listing);
-    let Outcome::Done = answer else {
+    let TreeOutcome::Marked(_) = answer else {
         io::write_all(1, b"refused ");
-        io::print_decimal(1, replies::answer_number(answer) as u64);
+        io::print_decimal(1, replies::record_number(answer) as u64);
         io::write_all(1, b"\n");
         return;
     };

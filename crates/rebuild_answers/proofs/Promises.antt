@@ -5,10 +5,11 @@ use mathlib.Core.Logic.{inl, inr, _↔_}
 use mathlib.Core.Bool.{true, false}
 use mathlib.Core.List.{List}
 use mathlib.Core.Option.{none}
-use Prim.Native.Nat.{ℕ, _-_, _*_, _<_}
+use Prim.Native.Nat.{ℕ, _-_, _*_, _≤_, _<_}
 use lib.ListN.{length}
 use Rattle.limits.specs.declared.Kind.{Kind}
-use Rattle.limits.specs.Limits.{scale-of}
+use Rattle.limits.specs.declared.Kind.the-variants.{Counts}
+use Rattle.limits.specs.Limits.{IsLeafCount, scale-of}
 use Rattle.limits.proofs.TableKinds.{scale-bounds}
 use Rattle.refusals.specs.declared.Refusal.the-variants.{NoTree, Proposal}
 use Rattle.refusals.specs.Refusals.{Answer, accepted, refused, written}
@@ -19,7 +20,9 @@ use Rattle.base.proofs.Bools.{bool?}
 use Rattle.trees.specs.Listings.{KeepsRules, tree-of, standard}
 use Rattle.trees.specs.Tables.{HasTable}
 use Rattle.table_checks.specs.Operations.{table-refusal}
-use Rattle.table_checks.proofs.TableRefusal.{Accepted, accepted-table}
+use Rattle.table_checks.proofs.TableRefusal.{Accepted, accepted-table, table-passes}
+use Rattle.packed_tables.specs.Packed.{table-with}
+use Rattle.packed_tables.proofs.PackedIsTable.{sheet-is-table}
 use Rattle.merging.specs.MergeLists.{Pair, after, each-eligible, Finished, subtrees, final-listing}
 use Rattle.merging.specs.Rebuilds.{rebuilt, guided}
 use Rattle.merging.specs.Demand3.{FirstIneligible}
@@ -87,6 +90,10 @@ module _ (kind : Kind) where
 
       only : OnlyTree n s t l
       only = meaning.meant-only n s t (table-means passed) l (sym (answer passed) ∙ e)
+
+      -- the leaf count is one
+      pub rebuilt-leaf-count : IsLeafCount n
+      rebuilt-leaf-count = table passed .count
 
       -- it keeps the rules, and is the one standard listing of its tree
       pub rebuilt-is-standard : KeepsRules n l × (standard n (tree-of n l) ≡ l)
@@ -193,3 +200,11 @@ module _ (kind : Kind) where
         → (r ≡ told (guided-answer kind n t p room))
         × ((out′ ≡ written (guided-answer kind n t p room) out) × Gives told (GuidedMeans kind n t p room) r out out′)
     guided-gives told = with-meaning told (GuidedMeans kind n t p room) (guided-answer kind n t p room) guided-meaning
+
+-- A table of counts made of the cells c above the diagonal: 4 and 5 never arise, and where the sizes are right, our own
+-- rebuild decides.
+pub mirrored-rebuilt :
+    (n : ℕ) (c : List ℕ) (room : ℕ) → IsLeafCount n → 2 * (n - 2) ≤ room
+    → rebuild-answer Counts n (table-with n c) room ≡ rebuilt n 1 (table-with n c)
+mirrored-rebuilt n c room count enough =
+    answer Counts n (table-with n c) room (table-passes Counts n _ _ room count (sheet-is-table n c) enough)

@@ -1,8 +1,8 @@
 // Runs both rebuilds on P7's table and on tables and merges like it.
-use case_lines::say;
 use case_lines::say_listing;
+use case_lines::say_tree;
 use limits::Kind;
-use refusals::Outcome;
+use tree_records::TreeOutcome;
 
 // P7's table.
 const FIVE: [u32; 25] = [
@@ -36,8 +36,8 @@ const FIVE: [u32; 25] = [
 // A table of five leaves by our own rebuild.
 fn rebuild(words: &[u8], cells: &[u32]) {
     let mut listing = [9u16; 6];
-    let answer: Outcome = own_rebuild::rebuild(Kind::Counts, 5, cells, &mut listing);
-    say(words, answer);
+    let answer: TreeOutcome = own_rebuild::rebuild(Kind::Counts, 5, cells, &mut listing);
+    say_tree(words, answer);
     say_listing(&listing);
 }
 
@@ -53,14 +53,14 @@ fn rebuilt() {
 // A table of five leaves guided by these merges.
 fn guide(words: &[u8], cells: &[u32], merges: &[u16]) {
     let mut listing = [9u16; 6];
-    let answer: Outcome = guided_rebuild::rebuild_guided(
+    let answer: TreeOutcome = guided_rebuild::rebuild_guided(
         Kind::Counts,
         5,
         cells,
         merges,
         &mut listing,
     );
-    say(words, answer);
+    say_tree(words, answer);
     say_listing(&listing);
 }
 

@@ -13,7 +13,6 @@ use Rattle.trees.specs.Tables.{times}
 use Rattle.standard_listings.specs.Operations.{standardise-answer}
 use Rattle.merging.specs.MergeLists.{Pair}
 use Rattle.rebuild_answers.specs.Operations.{rebuild-answer, guided-answer}
-use Rattle.poll_rules.specs.declared.Record.{Record}
 use Rattle.poll_rules.specs.Operations.{poll-answer}
 
 -- cells (i, j, v): cell (i, j) is v

@@ -1,7 +1,7 @@
 -- Which refusals may arise from a sheet: 13, 1, 14, 3, and then 15 and 16.
 use mathlib.Core.Bool.{Bool, true, false, cond}
-use mathlib.Core.List.{List, [], _∷_}
-use mathlib.Core.Option.{Option, none, some}
+use mathlib.Core.List.{List}
+use mathlib.Core.Option.{none, some}
 use Prim.Native.Nat.{ℕ, zero, suc}
 use lib.Dec.{ltb, leb}
 use Rattle.base.specs.Lists.{tab}

@@ -1,20 +1,15 @@
 -- The answers of the operations, from what was judged before them.
-use mathlib.Core.Path.{_≡_, refl, sym, _∙_}
-use mathlib.Core.Logic.{inl, inr}
-use mathlib.Core.Bool.{false, _&&_}
+use mathlib.Core.Path.{_≡_, refl}
 use mathlib.Core.List.{List}
 use mathlib.Core.Option.{Option, none, some}
 use Prim.Native.Nat.{ℕ, _-_, _*_}
 use native.Mathlib.Omega.{arith}
-use lib.Dec.{leb}
-use Rattle.base.proofs.Bools.{bool?}
-use Rattle.limits.specs.Limits.{most-leaves, IsLeafCount}
+use Rattle.limits.specs.Limits.{IsLeafCount}
 use Rattle.refusals.specs.declared.Refusal.{Refusal}
 use Rattle.refusals.specs.declared.Outcome.the-variants.{Done}
 use Rattle.refusals.specs.Refusals.{Answer, unless, outcome}
-use Rattle.sheet_rules.specs.Sheets.{leaves-of, offset-of}
-use Rattle.sheet_rules.specs.Operations.{right-ends, sheet-refusal}
-use Rattle.sheet_rules.proofs.SheetRefusal.{ends-refused, count-refused}
+use Rattle.sheet_rules.specs.Sheets.{leaves-of}
+use Rattle.sheet_rules.specs.Operations.{sheet-refusal}
 use Rattle.sheet_trees.specs.Operations.{sheet-tree, sheet-listing-answer}
 use Rattle.sheet_trees.proofs.SheetTree.{accepted-here}
 

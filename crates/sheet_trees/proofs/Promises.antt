@@ -8,6 +8,7 @@ use mathlib.Core.List.{List, flatMap}
 use mathlib.Core.Option.{none}
 use Prim.Native.Nat.{ℕ, _-_, _*_, _≤_, _<_}
 use native.Mathlib.Omega.{arith}
+use Rattle.limits.specs.declared.Kind.the-variants.{Counts}
 use Rattle.refusals.specs.declared.Refusal.{Refusal}
 use Rattle.refusals.specs.declared.Refusal.the-variants.{NoTree}
 use Rattle.refusals.specs.Refusals.{number-of, Answer, accepted, refused, answered, written}
@@ -19,15 +20,16 @@ use Rattle.refusals.proofs.Meanings.{unless-means, unless-fixed, with-meaning}
 use Rattle.merging.specs.MergeLists.{Pair, after, Finished, subtrees, final-listing}
 use Rattle.merging.specs.Meaning.{OnlyTree, HasTree, HasNoTree}
 use Rattle.merging.proofs.Meaning as meaning
+use Rattle.rebuild_answers.specs.Operations.{rebuild-answer}
 use Rattle.byte_numbers.specs.Bytes.{low-first}
 use Rattle.sheet_rules.specs.Sheets.{leaves-of, offset-of, cells-of}
 use Rattle.sheet_rules.specs.Operations.{sheet-refusal, check-sheet-answer}
 use Rattle.sheet_rules.proofs.Causes.{SheetCauses, sheet-arises}
 use Rattle.packed_tables.specs.Packed.{table-with}
 use Rattle.packed_tables.proofs.PackedIsTable.{sheet-is-table}
-use Rattle.sheet_trees.specs.Operations.{sheet-tree, in-bytes, sheet-bytes-answer}
+use Rattle.sheet_trees.specs.Operations.{sheet-tree, sheet-listing-answer, in-bytes, sheet-bytes-answer}
 use Rattle.sheet_trees.specs.Meanings.{SheetTreeMeans, InBytes, SheetBytesMean}
-use Rattle.sheet_trees.proofs.SheetTree.{accepted-here, other-room}
+use Rattle.sheet_trees.proofs.SheetTree.{accepted-here, other-room, rebuilt-alone}
 
 -- an answer in bytes is accepted, or refused, as the answer is
 in-bytes-accepted :
@@ -80,6 +82,16 @@ not-six S due room = sheet-arises (λ r. r ≢ NoTree) S (leaves-of S) (offset-o
       name = λ i. other-number _ (omega arith);
       same-name = λ i. other-number _ (omega arith);
     }
+
+-- The call that gives the listing in numbers: where it is accepted, the listing is that of our own rebuild of the
+-- sheet's table.
+pub sheet-same-listing :
+    (S : List ℕ) (room : ℕ) (l : List ℕ) → sheet-listing-answer S room ≡ accepted l
+    → rebuild-answer Counts (leaves-of S) (table-with (leaves-of S) (cells-of S)) room ≡ accepted l
+unfolding sheet-listing-answer
+sheet-same-listing S room l e =
+    let a = unless-accepted (sheet-refusal S (2 * (leaves-of S - 2)) room) _ l e in
+    rebuilt-alone S room (a .0) ∙ a .1
 
 module _ (S : List ℕ) where
   abbrev n : ℕ
@@ -162,6 +174,17 @@ module _ (S : List ℕ) where
         let a = told b e in
         let l = in-bytes-accepted (sheet-tree S) b (a .1) in
         (l .0, meaning.meant-only n 1 t (tree-means due room (a .0)) (l .0) (l .1), l .2)
+
+    -- It is the listing that the call in numbers gives, with room for no more than that.
+    pub bytes-same-listing :
+        (b : List ℕ) → sheet-bytes-answer S room ≡ accepted b
+        → (l : List ℕ) × (sheet-listing-answer S (2 * (n - 2)) ≡ accepted l) × (b ≡ flatMap (low-first 2) l)
+    unfolding sheet-listing-answer
+    bytes-same-listing b e =
+        let a = told b e in
+        let l = in-bytes-accepted (sheet-tree S) b (a .1) in
+        let fits = other-room S due room (a .0) (2 * (n - 2)) (2 * (n - 2)) (omega arith) in
+        (l .0, unless-passed _ _ fits ∙ l .1, l .2)
 
     -- Every finished list of eligible merges ends in one tree with that listing; where 6 is said, each leaves several.
     pub sheet-any-order :

@@ -1,23 +1,19 @@
 -- The table of a sheet on its way to our own rebuild: a sheet accepted with one room is accepted with any other that is
 -- enough, and our own rebuild refuses it with 6 alone, as a table and where it stands.
 use mathlib.Core.Path.{_≡_, _∙_}
-use mathlib.Core.Option.{Option, none}
-use mathlib.Core.List.{List, _∷_}
+use mathlib.Core.Option.{none}
+use mathlib.Core.List.{List}
 use Prim.Native.Nat.{ℕ, _+_, _-_, _*_, _≤_}
 use native.Mathlib.Omega.{arith}
 use lib.ListN.{length, take, drop}
 use Rattle.limits.specs.declared.Kind.the-variants.{Counts}
-use Rattle.limits.specs.Limits.{IsLeafCount}
-use Rattle.refusals.specs.declared.Refusal.{Refusal}
-use Rattle.refusals.specs.Refusals.{judged}
 use Rattle.refusals.proofs.Answers.{judged-passes, judged-none, unless-passed}
 use Rattle.checks.specs.Sizes.{count-refusal, room-refusal}
 use Rattle.checks.proofs.Sizes.{room-passes}
-use Rattle.table_checks.proofs.TableRefusal.{table-passes}
 use Rattle.packed_tables.specs.Packed.{table-with}
-use Rattle.packed_tables.proofs.PackedIsTable.{sheet-is-table}
 use Rattle.rebuild_answers.specs.Operations.{rebuild-answer, packed-answer}
 use Rattle.rebuild_answers.proofs.RebuildRefusals.{none-refused}
+use Rattle.rebuild_answers.proofs.Promises.{mirrored-rebuilt}
 use Rattle.sheet_rules.specs.Sheets.{cell-bytes, leaves-of, offset-of, cells-of}
 use Rattle.sheet_rules.specs.Operations.{sheet-ends-refusal, sheet-length-refusal, kept-sheet-refusal, sheet-refusal}
 use Rattle.sheet_rules.proofs.SheetRefusal.{Accepted, accepted-sheet}
@@ -47,11 +43,10 @@ module _ (S : List ℕ) (due room : ℕ) (h : sheet-refusal S due room ≡ none)
 pub rebuilt-alone :
     (S : List ℕ) (room : ℕ) → sheet-refusal S (2 * (leaves-of S - 2)) room ≡ none
     → rebuild-answer Counts (leaves-of S) (table-with (leaves-of S) (cells-of S)) room ≡ sheet-tree S
-unfolding rebuild-answer sheet-tree
+unfolding sheet-tree
 rebuilt-alone S room h =
-    let n = leaves-of S in
-    let a = accepted-here S (2 * (n - 2)) room h in
-    unless-passed _ _ (table-passes Counts n _ _ room (a .count) (sheet-is-table n (cells-of S)) (a .room-enough))
+    let a = accepted-here S (2 * (leaves-of S - 2)) room h in
+    mirrored-rebuilt (leaves-of S) (cells-of S) room (a .count) (a .room-enough)
 
 -- and where it stands, in the bytes from the offset to the trailer
 pub rebuilt-in-place :

@@ -1,10 +1,10 @@
 -- `checks::judge_input` meets its contract: the tests stand in the order in which the refusals are judged.
-use mathlib.Core.Path.{_≡_, ap, sym, _∙_}
+use mathlib.Core.Path.{ap, sym, _∙_}
 use borrow.Author.Needs.{needs}
 use borrow.Author.Tests.{not-true, not-false}
 use Rattle.limits.specs.Limits.{IsCountOf}
 use Rattle.refusals.specs.Refusals.{outcome-of}
-use Rattle.refusals.proofs.Answers.{judged-stops, judged-passes, judged-alone}
+use Rattle.refusals.proofs.Answers.{judged-stops, judged-passes}
 use Rattle.checks.specs.Sizes.{input-refusal}
 use Rattle.checks.proofs.Sizes.{is-count, count-stops, count-passes, length-stops, input-passes}
 use Rattle.checks.proofs.judge_input.Statement.{statement}

@@ -1,5 +1,4 @@
 -- `checks::leaf_count_of` meets its contract: the limits are those of the kind.
-use mathlib.Core.Path.{_∙_}
 use borrow.Author.Needs.{needs}
 use Rattle.checks.proofs.leaf_count_of.Statement.{statement}
 use Rattle.checks.proofs.leaf_count_of.Tie as tie

@@ -1,9 +1,9 @@
 -- `leaf_orders::count_leaves` meets its contract: before row k the sizes under the numbers below n + k are there.
 use mathlib.Core.Path.{_≡_, refl, _∙_}
-use Prim.Native.Nat.{ℕ, _+_, _-_, _*_, _≤_, _<_}
+use Prim.Native.Nat.{ℕ, _+_, _-_, _≤_}
 use native.Mathlib.Omega.{arith}
 use borrow.Author.Needs.{needs}
-use lib.ListN.{length, getD, replicate, length-set, getD-replicate}
+use lib.ListN.{length, replicate, length-set, getD-replicate}
 use Rattle.limits.specs.Limits.{most-nodes}
 use Rattle.trees.specs.Trees.{size}
 use Rattle.listings.proofs.Rows.{RowOf, row-read}

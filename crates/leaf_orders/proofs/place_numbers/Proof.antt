@@ -1,11 +1,8 @@
 -- `leaf_orders::place_numbers` meets its contract: the last number and leaf 0 have their places, and so have the
 -- children of the numbers from c on.
-use mathlib.Core.Path.{_≡_, refl, _∙_}
-use Prim.Native.Nat.{ℕ, _+_, _-_, _*_, _≤_, _<_}
+use mathlib.Core.Path.{_≡_}
+use Prim.Native.Nat.{_+_, _-_, _*_, _≤_}
 use native.Mathlib.Omega.{arith}
-use borrow.Author.Needs.{needs}
-use lib.ListN.{length, getD}
-use Rattle.limits.specs.Limits.{most-nodes}
 use Rattle.leaf_orders.specs.inner.Orders.{NumbersPlaced}
 use Rattle.leaf_orders.proofs.Placing.{Next, first-below, second-below, few, in-place, children-placed}
 use Rattle.leaf_orders.proofs.Placing.{placing-starts}

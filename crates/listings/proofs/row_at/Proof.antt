@@ -1,5 +1,4 @@
 -- `listings::row_at` meets its contract: a row is there where the listing has more than k pairs of numbers.
-use mathlib.Core.Path.{_≡_, _∙_}
 use Prim.Native.Nat.{_/_}
 use borrow.Author.Needs.{needs}
 use borrow.Author.Tests.{lt-ltb, le-ltb}

@@ -1,5 +1,4 @@
 -- `replies::figure_of` meets its contract: each case has its own figures.
-use mathlib.Core.Path.{_∙_}
 use borrow.Author.Needs.{needs}
 use Rattle.replies.proofs.figure_of.Statement.{statement}
 use Rattle.replies.proofs.figure_of.Tie as tie

@@ -1,10 +1,7 @@
 -- `replies::refusal_reply` meets its contract: the number has eight bits, and the figure is right in its lowest 56.
-use mathlib.Core.Path.{ap, _∙_}
-use Prim.Native.Nat.{ℕ, _+_, _*_}
+use mathlib.Core.Path.{_∙_}
 use native.Mathlib.Omega.{arith}
 use borrow.Author.Needs.{needs}
-use Rattle.refusals.specs.Refusals.{number-of}
-use Rattle.replies.specs.Replies.{eight-bits}
 use Rattle.replies.proofs.Numbers.{numbered}
 use Rattle.replies.proofs.refusal_reply.Statement.{statement}
 use Rattle.replies.proofs.refusal_reply.Tie as tie

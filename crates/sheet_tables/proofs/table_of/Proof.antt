@@ -1,6 +1,6 @@
 -- `sheet_tables::table_of` meets its contract: nothing is written before `judge_sheet` is done, and what it accepts has
 -- its cells between the offset and the trailer, so that the table is written.
-use mathlib.Core.Path.{_≡_, _∙_}
+use mathlib.Core.Path.{_∙_}
 use Prim.Native.Nat.{_*_, _≤_}
 use native.Mathlib.Nat.{mul-le-mul}
 use native.Mathlib.Omega.{arith}

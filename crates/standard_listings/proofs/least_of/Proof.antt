@@ -1,5 +1,4 @@
 -- `standard_listings::least_of` meets its contract.
-use native.Mathlib.Omega.{arith}
 use borrow.Author.Needs.{needs}
 use borrow.Author.Tests.{lt-ltb, le-ltb}
 use Rattle.standard_listings.specs.inner.Standardising.{known-least}

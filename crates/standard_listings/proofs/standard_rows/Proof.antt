@@ -1,6 +1,5 @@
 -- `standard_listings::standard_rows` meets its contract: the rows under the last node, from row 0 on, are the standard
 -- listing.
-use mathlib.Core.Path.{_∙_}
 use Prim.Native.Nat.{ℕ}
 use native.Mathlib.Omega.{arith}
 use borrow.Author.Needs.{needs}

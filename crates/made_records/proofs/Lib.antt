@@ -1,0 +1,2 @@
+pub mod Restandardising
+pub mod Made

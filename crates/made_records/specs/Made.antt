@@ -1,0 +1,56 @@
+-- Which tree records can come out of a chain of our operations (02, request 3), one case an operation; and what rebuilt
+-- stands for. What may be relied on of them is shown in proofs/Made.antt.
+use mathlib.Core.Path.{_≡_}
+use mathlib.Core.List.{List}
+use mathlib.Core.Option.{Option, none, some}
+use Prim.Native.Nat.{ℕ}
+use Rattle.limits.specs.declared.Kind.{Kind}
+use Rattle.limits.specs.declared.Kind.the-variants.{Counts}
+use Rattle.limits.specs.Limits.{scale-of}
+use Rattle.refusals.specs.Refusals.{accepted}
+use Rattle.tree_records.specs.Records.{TreeRecord}
+use Rattle.trees.specs.Trees.{Tree}
+use Rattle.trees.specs.Listings.{tree-of}
+use Rattle.trees.specs.Tables.{HasTable}
+use Rattle.listings.specs.Operations.{lent-record}
+use Rattle.standard_listings.specs.Operations.{restandardise-record}
+use Rattle.packed_tables.specs.Packed.{table-with}
+use Rattle.rebuild_answers.specs.Operations.{rebuild-record, guided-record}
+use Rattle.sheet_rules.specs.Sheets.{leaves-of, cells-of}
+use Rattle.sheet_trees.specs.Operations.{sheet-record}
+use Rattle.newick_rules.specs.Operations.{import-record}
+
+-- the table that the rebuild at the start of a chain was given, with its kind; none where no rebuild stands there
+abbrev pub Given : Type 0
+Given = Option (Kind × List ℕ)
+
+-- the record R can come out of a chain of our operations, with this table given
+pub data Made : TreeRecord → Given → Type 0 where
+  -- our own rebuild of a lent table, and of a sheet's, which is one of counts
+  rebuild :
+      (kind : Kind) (n : ℕ) (t : List ℕ) (room : ℕ) {R : TreeRecord} → rebuild-record kind n t room ≡ accepted R
+      → Made R (some (kind, t))
+  rebuild-sheet :
+      (S : List ℕ) (room : ℕ) {R : TreeRecord} → sheet-record S room ≡ accepted R
+      → Made R (some (Counts, table-with (leaves-of S) (cells-of S)))
+  -- the guided rebuild
+  rebuild-guided :
+      (kind : Kind) (n : ℕ) (t p : List ℕ) (room : ℕ) {R : TreeRecord} → guided-record kind n t p room ≡ accepted R
+      → Made R (some (kind, t))
+  -- a lent listing
+  lend : (n : ℕ) (l : List ℕ) {R : TreeRecord} → lent-record n l ≡ accepted R → Made R none
+  -- an import
+  import : (S t : List ℕ) (room : ℕ) {R : TreeRecord} → import-record S t room ≡ accepted R → Made R none
+  -- restandardising a record that was made so
+  restandardise :
+      {R R′ : TreeRecord} {g : Given} (room : ℕ) → Made R g
+      → restandardise-record (R .leaves) (R .listing) (R .origin) room ≡ accepted R′ → Made R′ g
+
+-- the tree of a record
+abbrev pub tree : TreeRecord → Tree
+tree R = tree-of (R .leaves) (R .listing)
+
+-- the table given is that of the record's tree, for a poll's six times that
+pub data HasTableGiven (R : TreeRecord) : Given → Type 0 where
+  has-table :
+      {kind : Kind} {t : List ℕ} → HasTable (R .leaves) (scale-of kind) t (tree R) → HasTableGiven R (some (kind, t))

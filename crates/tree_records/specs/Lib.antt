@@ -1,0 +1,3 @@
+pub mod Origins
+pub mod Records
+pub mod inner
