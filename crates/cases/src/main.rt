@@ -66,7 +66,7 @@ fn leaf_count(what: &[u8], n: usize) {
     say(b"", tree_tables::table(n, &listing, &mut cells));
     say_tree(
         b"",
-        own_rebuild::rebuild(Kind::Counts, n, &cells, &mut rebuilt),
+        record_operations::rebuild(Kind::Counts, n, &cells, &mut rebuilt),
     );
 }
 
@@ -81,7 +81,7 @@ fn restandardise(words: &[u8], origin: Origin, listing: &[u16]) {
     let mut standard = [9u16; 6];
     say_tree(
         words,
-        standard_listings::restandardise(5, origin, listing, &mut standard),
+        record_operations::restandardise(5, origin, listing, &mut standard),
     );
     say_listing(&standard);
 }
@@ -89,7 +89,7 @@ fn restandardise(words: &[u8], origin: Origin, listing: &[u16]) {
 // P7's tree as another listing, lent and then restandardised, whatever its origin; and a listing that breaks the rules.
 fn records() {
     let listing: [u16; 6] = [4, 3, 5, 2, 6, 1];
-    say_tree(b"lend 4 3 5 2 6 1: ", listings::lend(5, &listing));
+    say_tree(b"lend 4 3 5 2 6 1: ", record_operations::lend(5, &listing));
     restandardise(b"restandardise it, listed: ", Origin::Listed, &listing);
     restandardise(b"restandardise it, imported: ", Origin::Imported, &listing);
     restandardise(b"restandardise it, rebuilt: ", Origin::Rebuilt, &listing);

@@ -11,21 +11,16 @@ use refusals::Outcome;
 use refusals::Refusal;
 use state_arrays::merge;
 use state_arrays::scaled_counts;
-use tree_records::Origin;
-use tree_records::TreeOutcome;
-use tree_records::mark;
 ghost use mathlib.Core.Path.{_≡_};
 ghost use Prim.Native.Nat.{_-_, _*_, _<_, _≤_};
 ghost use lib.ListN.{length, getD};
 ghost use Rattle.limits.specs.Limits.{IsLeafCount, scale-of};
 ghost use Rattle.refusals.specs.Refusals.{outcome, written};
 ghost use Rattle.refusals.specs.Meanings.{Gives};
-ghost use Rattle.tree_records.specs.declared.Origin.the-variants.{Rebuilt};
-ghost use Rattle.tree_records.specs.Records.{marked, tree-outcome};
 ghost use Rattle.trees.specs.Tables.{IsTable};
 ghost use Rattle.merging.specs.Merging.{start};
 ghost use Rattle.merging.specs.Rebuilds.{guided};
-ghost use Rattle.rebuild_answers.specs.Operations.{proposals, guided-answer, guided-record};
+ghost use Rattle.rebuild_answers.specs.Operations.{proposals, guided-answer};
 ghost use Rattle.rebuild_answers.specs.Meanings.{GuidedMeans};
 ghost use Rattle.state_arrays.specs.inner.Fits.{counts-scale, Given};
 ghost use Rattle.guided_rebuild.specs.inner.Proposals.{HoldsReached, HoldsSomeReached, Labels, Proposed, Stopped};
@@ -147,14 +142,23 @@ fn guided_checked(kind: Kind, n: usize, table: &[u32], merges: &[u16], out: &mut
     rebuild_checked(kind, n, table, b"", out)
 }
 
-// Writes the standard listing of the tree that has a table of this kind at the front of `out`, where each of the
-// proposed merges names a pair that is eligible at its turn: 1, 2, 3, 4, 5, 12.
-fn guided_listing(kind: Kind, n: usize, table: &[u32], merges: &[u16], out: &mut [u16]) -> Outcome
+// The guided rebuild of a table of this kind: writes the standard listing of the tree that has it at the front of
+// `out`, where each of the proposed merges names a pair that is eligible at its turn.
+pub fn rebuild_guided(
+    kind: Kind,
+    n: usize,
+    table: &[u32],
+    merges: &[u16],
+    out: &mut [u16],
+) -> Outcome
     ensures answer { λ r. ⌜ r
         ≡ outcome (guided-answer kind n (now (table .entry)) (now (merges .entry)) (length (now (out .entry)))) ⌝ }
     ensures buffer { λ _. ⌜ now (out .exit)
         ≡ written (guided-answer kind n (now (table .entry)) (now (merges .entry)) (length (now (out .entry))))
         (now (out .entry)) ⌝ }
+    ensures meaning { λ r. ⌜ Gives outcome
+        (GuidedMeans kind n (now (table .entry)) (now (merges .entry)) (length (now (out .entry)))) r
+        (now (out .entry)) (now (out .exit)) ⌝ }
 {
     let input = checks::judge_input(kind, n, checks::numbers_due(n, 2, 1), merges.len());
     let Outcome::Done = input else {
@@ -165,24 +169,4 @@ fn guided_listing(kind: Kind, n: usize, table: &[u32], merges: &[u16], out: &mut
         return judged;
     };
     guided_checked(kind, n, table, merges, out)
-}
-
-// The guided rebuild of a table of this kind by proposed merges: writes that listing, and marks its tree rebuilt.
-pub fn rebuild_guided(
-    kind: Kind,
-    n: usize,
-    table: &[u32],
-    merges: &[u16],
-    out: &mut [u16],
-) -> TreeOutcome
-    ensures answer { λ r. ⌜ r ≡ tree-outcome
-        (guided-record kind n (now (table .entry)) (now (merges .entry)) (length (now (out .entry)))) ⌝ }
-    ensures buffer { λ _. ⌜ now (out .exit)
-        ≡ written (guided-answer kind n (now (table .entry)) (now (merges .entry)) (length (now (out .entry))))
-        (now (out .entry)) ⌝ }
-    ensures meaning { λ r. ⌜ Gives (λ a. tree-outcome (marked n Rebuilt a))
-        (GuidedMeans kind n (now (table .entry)) (now (merges .entry)) (length (now (out .entry)))) r
-        (now (out .entry)) (now (out .exit)) ⌝ }
-{
-    mark(Origin::Rebuilt, guided_listing(kind, n, table, merges, out))
 }

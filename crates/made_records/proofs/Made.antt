@@ -19,19 +19,20 @@ use Rattle.tree_records.specs.Origins.{origin-number}
 use Rattle.tree_records.specs.Records.{TreeRecord, marked}
 use Rattle.trees.specs.Listings.{KeepsRules, standard}
 use Rattle.trees.specs.Tables.{table-of, times}
-use Rattle.listings.specs.Operations.{listing-refusal, lent-record}
+use Rattle.listings.specs.Operations.{listing-refusal}
 use Rattle.listings.proofs.ListingRefusal.{accepted-listing}
-use Rattle.standard_listings.specs.Operations.{restandardise-record}
-use Rattle.rebuild_answers.specs.Operations.{rebuild-answer, rebuild-record, guided-answer, guided-record}
+use Rattle.rebuild_answers.specs.Operations.{rebuild-answer, guided-answer}
 use Rattle.rebuild_answers.proofs.Promises.{rebuilt-leaf-count, rebuilt-is-standard, rebuilt-has-the-table}
 use Rattle.rebuild_answers.proofs.Promises.{guided-same-listing}
 use Rattle.byte_numbers.specs.Bytes.{low-first}
 use Rattle.packed_tables.specs.Packed.{table-with}
 use Rattle.sheet_rules.specs.Sheets.{leaves-of, cells-of}
-use Rattle.sheet_trees.specs.Operations.{sheet-listing-answer, sheet-record, sheet-bytes-answer}
+use Rattle.sheet_trees.specs.Operations.{sheet-listing-answer, sheet-bytes-answer}
 use Rattle.sheet_trees.proofs.Promises.{sheet-same-listing, bytes-same-listing}
-use Rattle.newick_rules.specs.Operations.{import-answer, import-record}
+use Rattle.newick_rules.specs.Operations.{import-answer}
 use Rattle.newick_rules.proofs.Sheets.{import-answer-right}
+use Rattle.record_operations.specs.Operations.{rebuild-record, sheet-record, guided-record, lent-record}
+use Rattle.record_operations.specs.Operations.{import-record, restandardise-record}
 use Rattle.made_records.specs.Made.{Given, Made, rebuild, rebuild-sheet, rebuild-guided}
 use Rattle.made_records.specs.Made.{lend, import, restandardise, tree, HasTableGiven, has-table}
 use Rattle.made_records.proofs.Restandardising.{restandardise-same, restandardise-accepts}

@@ -19,7 +19,8 @@ use Rattle.trees.proofs.Listings.{tree-listing, standard-once}
 use Rattle.merging.proofs.OneTable.{one-table}
 use Rattle.listings.specs.Operations.{listing-refusal}
 use Rattle.listings.proofs.ListingRefusal.{accepted-listing, rules-left}
-use Rattle.standard_listings.specs.Operations.{standardise-answer, restandardise-record}
+use Rattle.standard_listings.specs.Operations.{standardise-answer}
+use Rattle.record_operations.specs.Operations.{restandardise-record}
 use Rattle.made_records.specs.Made.{tree}
 
 -- R is what restandardising makes of the record of n leaves, the listing l and the origin o

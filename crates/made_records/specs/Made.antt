@@ -12,13 +12,10 @@ use Rattle.tree_records.specs.Records.{TreeRecord}
 use Rattle.trees.specs.Trees.{Tree}
 use Rattle.trees.specs.Listings.{tree-of}
 use Rattle.trees.specs.Tables.{HasTable}
-use Rattle.listings.specs.Operations.{lent-record}
-use Rattle.standard_listings.specs.Operations.{restandardise-record}
 use Rattle.packed_tables.specs.Packed.{table-with}
-use Rattle.rebuild_answers.specs.Operations.{rebuild-record, guided-record}
 use Rattle.sheet_rules.specs.Sheets.{leaves-of, cells-of}
-use Rattle.sheet_trees.specs.Operations.{sheet-record}
-use Rattle.newick_rules.specs.Operations.{import-record}
+use Rattle.record_operations.specs.Operations.{rebuild-record, sheet-record, guided-record, lent-record}
+use Rattle.record_operations.specs.Operations.{import-record, restandardise-record}
 
 -- the table that the rebuild at the start of a chain was given, with its kind; none where no rebuild stands there
 abbrev pub Given : Type 0

@@ -5,20 +5,15 @@ use name_index::BUCKETS;
 use newick_text::read_text;
 use refusals::Outcome;
 use standard_listings::standard_rows;
-use tree_records::Origin;
-use tree_records::TreeOutcome;
-use tree_records::mark;
 ghost use mathlib.Core.Path.{_≡_};
 ghost use Prim.Native.Nat.{_-_, _*_, _+_, _≤_};
 ghost use lib.ListN.{length, take};
 ghost use Rattle.limits.specs.Limits.{IsLeafCount, most-numbers};
 ghost use Rattle.refusals.specs.Refusals.{outcome, written};
 ghost use Rattle.refusals.specs.Meanings.{Gives};
-ghost use Rattle.tree_records.specs.declared.Origin.the-variants.{Imported};
-ghost use Rattle.tree_records.specs.Records.{marked, tree-outcome};
-ghost use Rattle.sheet_rules.specs.Sheets.{leaves-of, names-of};
+ghost use Rattle.sheet_rules.specs.Sheets.{names-of};
 ghost use Rattle.newick_rules.specs.Importing.{imported};
-ghost use Rattle.newick_rules.specs.Operations.{Strains, import-answer, import-record};
+ghost use Rattle.newick_rules.specs.Operations.{Strains, import-answer};
 ghost use Rattle.newick_rules.specs.Meanings.{ImportMeans};
 ghost use Rattle.newick_text.specs.inner.Names.{Indexed};
 ghost use Rattle.newick_text.specs.inner.Chains.{with-chain, ChainFits};
@@ -94,12 +89,15 @@ fn import_indexed(
 
 // Writes the standard listing of the tree that a text draws, with the names of a sheet, at the front of `out`: 13, 1,
 // 14, 3, 15, 16, 17, 18, 19.
-fn imported_listing(sheet: &[u8], text: &[u8], out: &mut [u16]) -> Outcome
+pub fn import(sheet: &[u8], text: &[u8], out: &mut [u16]) -> Outcome
     ensures answer { λ r. ⌜ r
         ≡ outcome (import-answer (now (sheet .entry)) (now (text .entry)) (length (now (out .entry)))) ⌝ }
     ensures buffer { λ _. ⌜ now (out .exit)
         ≡ written (import-answer (now (sheet .entry)) (now (text .entry)) (length (now (out .entry))))
         (now (out .entry)) ⌝ }
+    ensures meaning { λ r. ⌜ Gives outcome
+        (ImportMeans (now (sheet .entry)) (now (text .entry)) (length (now (out .entry)))) r
+        (now (out .entry)) (now (out .exit)) ⌝ }
 {
     let figures = sheets::figures_of(sheet);
     let n = figures.leaves;
@@ -119,18 +117,4 @@ fn imported_listing(sheet: &[u8], text: &[u8], out: &mut [u16]) -> Outcome
         return judged;
     };
     import_indexed(sheet, n, &heads, &before, &starts, text, out)
-}
-
-// Import: writes that listing, and marks its tree imported.
-pub fn import(sheet: &[u8], text: &[u8], out: &mut [u16]) -> TreeOutcome
-    ensures answer { λ r. ⌜ r
-        ≡ tree-outcome (import-record (now (sheet .entry)) (now (text .entry)) (length (now (out .entry)))) ⌝ }
-    ensures buffer { λ _. ⌜ now (out .exit)
-        ≡ written (import-answer (now (sheet .entry)) (now (text .entry)) (length (now (out .entry))))
-        (now (out .entry)) ⌝ }
-    ensures meaning { λ r. ⌜ Gives (λ a. tree-outcome (marked (leaves-of (now (sheet .entry))) Imported a))
-        (ImportMeans (now (sheet .entry)) (now (text .entry)) (length (now (out .entry)))) r
-        (now (out .entry)) (now (out .exit)) ⌝ }
-{
-    mark(Origin::Imported, imported_listing(sheet, text, out))
 }

@@ -1,5 +1,4 @@
--- Import and export: their answers, the refusals in the order in which they are judged; and the tree record that import
--- makes.
+-- Import and export: their answers, the refusals in the order in which they are judged.
 use mathlib.Core.Path.{_≡_}
 use mathlib.Core.Logic.{_≢_}
 use mathlib.Core.Bool.{true}
@@ -7,8 +6,6 @@ use mathlib.Core.List.{List, [], _∷_}
 use Prim.Native.Nat.{ℕ, _-_, _*_, _<_}
 use lib.ListN.{length, getD}
 use Rattle.refusals.specs.Refusals.{Answer, judged, answered, unless}
-use Rattle.tree_records.specs.declared.Origin.the-variants.{Imported}
-use Rattle.tree_records.specs.Records.{TreeRecord, marked}
 use Rattle.trees.specs.Listings.{rules-refusal, tree-of}
 use Rattle.checks.specs.Sizes.{count-refusal, length-refusal, room-refusal}
 use Rattle.sheet_rules.specs.Sheets.{leaves-of, offset-of, names-of, is-name}
@@ -25,10 +22,6 @@ pub record Strains (n : ℕ) (names : List (List ℕ)) : Type 0 where
 -- import with a sheet: 13, 1, 14, 3, 15, 16, 17, 18, 19
 unfoldable pub import-answer : (S t : List ℕ) (room : ℕ) → Answer (List ℕ)
 import-answer S t room = unless (sheet-refusal S (2 * (leaves-of S - 2)) room) (imported (names-of S) t)
-
--- its tree is imported
-unfoldable pub import-record : (S t : List ℕ) (room : ℕ) → Answer TreeRecord
-import-record S t room = marked (leaves-of S) Imported (import-answer S t room)
 
 -- export of a listing with a sheet: 13, 1, 2, 14, 7, 8, 15, 16, 3
 unfoldable pub export-answer : (S l : List ℕ) (room : ℕ) → Answer (List ℕ)

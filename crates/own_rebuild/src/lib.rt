@@ -9,9 +9,6 @@ use numbers::own_numbers;
 use refusals::Outcome;
 use refusals::Refusal;
 use state_arrays::scaled_counts;
-use tree_records::Origin;
-use tree_records::TreeOutcome;
-use tree_records::mark;
 ghost use mathlib.Core.Path.{_≡_};
 ghost use mathlib.Core.Logic.{_↔_};
 ghost use mathlib.Core.Bool.{true};
@@ -20,11 +17,9 @@ ghost use lib.ListN.{length};
 ghost use Rattle.limits.specs.Limits.{most-leaves, IsLeafCount, scale-of};
 ghost use Rattle.refusals.specs.Refusals.{outcome, written};
 ghost use Rattle.refusals.specs.Meanings.{Gives};
-ghost use Rattle.tree_records.specs.declared.Origin.the-variants.{Rebuilt};
-ghost use Rattle.tree_records.specs.Records.{marked, tree-outcome};
 ghost use Rattle.trees.specs.Tables.{IsTable};
 ghost use Rattle.merging.specs.Rebuilds.{rebuilt};
-ghost use Rattle.rebuild_answers.specs.Operations.{rebuild-answer, rebuild-record, packed-answer};
+ghost use Rattle.rebuild_answers.specs.Operations.{rebuild-answer, packed-answer};
 ghost use Rattle.rebuild_answers.specs.Meanings.{RebuildMeans};
 ghost use Rattle.eligible_pairs.specs.inner.Lent.{lent-table};
 ghost use Rattle.own_rebuild.specs.inner.OneSubtree.{OneSubtreeFits};
@@ -100,31 +95,19 @@ pub fn rebuild_checked(
     Outcome::Done
 }
 
-// Writes the standard listing of the tree that has a table of this kind at the front of `out`: 1, 2, 3, 4, 5, 6.
-fn rebuilt_listing(kind: Kind, n: usize, table: &[u32], out: &mut [u16]) -> Outcome
+// Our own rebuild of a table of this kind: writes the standard listing of the tree that has it at the front of `out`.
+pub fn rebuild(kind: Kind, n: usize, table: &[u32], out: &mut [u16]) -> Outcome
     ensures answer { λ r. ⌜ r ≡ outcome (rebuild-answer kind n (now (table .entry)) (length (now (out .entry)))) ⌝ }
     ensures buffer { λ _. ⌜ now (out .exit)
         ≡ written (rebuild-answer kind n (now (table .entry)) (length (now (out .entry)))) (now (out .entry)) ⌝ }
+    ensures meaning { λ r. ⌜ Gives outcome (RebuildMeans kind n (now (table .entry)) (length (now (out .entry)))) r
+        (now (out .entry)) (now (out .exit)) ⌝ }
 {
     let judged = table_checks::judge_for_rows(kind, n, table, out.len());
     let Outcome::Done = judged else {
         return judged;
     };
     rebuild_checked(kind, n, table, b"", out)
-}
-
-// Our own rebuild of a table of this kind: writes the standard listing of the tree that has it at the front of `out`,
-// and marks it rebuilt.
-pub fn rebuild(kind: Kind, n: usize, table: &[u32], out: &mut [u16]) -> TreeOutcome
-    ensures answer { λ r. ⌜ r
-        ≡ tree-outcome (rebuild-record kind n (now (table .entry)) (length (now (out .entry)))) ⌝ }
-    ensures buffer { λ _. ⌜ now (out .exit)
-        ≡ written (rebuild-answer kind n (now (table .entry)) (length (now (out .entry)))) (now (out .entry)) ⌝ }
-    ensures meaning { λ r. ⌜ Gives (λ a. tree-outcome (marked n Rebuilt a))
-        (RebuildMeans kind n (now (table .entry)) (length (now (out .entry)))) r
-        (now (out .entry)) (now (out .exit)) ⌝ }
-{
-    mark(Origin::Rebuilt, rebuilt_listing(kind, n, table, out))
 }
 
 // How many bytes a packed table of n leaves has; 0 where no tree has n leaves.
@@ -137,8 +120,7 @@ fn packed_bytes(n: usize) -> usize
     n * (n - 1)
 }
 
-// The same of a packed table of counts: the cells above the diagonal, row by row, in two bytes each, low byte first. It
-// tells no origin. For the crates above.
+// Our own rebuild of a packed table: the cells above the diagonal, row by row, in two bytes each, low byte first.
 pub fn rebuild_packed(n: usize, packed: &[u8], out: &mut [u16]) -> Outcome
     ensures answer { λ r. ⌜ r ≡ outcome (packed-answer n (now (packed .entry)) (length (now (out .entry)))) ⌝ }
     ensures buffer { λ _. ⌜ now (out .exit)

@@ -11,13 +11,12 @@ ghost use Rattle.tree_records.specs.declared.Origin.the-variants.{Rebuilt, Impo
 ghost use Rattle.tree_records.specs.Origins.{origin-of};
 ghost use Rattle.tree_records.specs.Records.{marked};
 ghost use Rattle.listings.specs.Operations.{check-answer};
-ghost use Rattle.standard_listings.specs.Operations.{standardise-answer, restandardise-record};
+ghost use Rattle.standard_listings.specs.Operations.{standardise-answer};
 ghost use Rattle.splits.specs.Operations.{splits-answer};
 ghost use Rattle.pairings.specs.Operations.{lent-pairing-answer};
 ghost use Rattle.tree_tables.specs.Operations.{table-answer};
 ghost use Rattle.gaps.specs.Operations.{gap-answer};
-ghost use Rattle.rebuild_answers.specs.Operations.{rebuild-answer, rebuild-record, guided-answer};
-ghost use Rattle.rebuild_answers.specs.Operations.{guided-record};
+ghost use Rattle.rebuild_answers.specs.Operations.{rebuild-answer, guided-answer};
 ghost use Rattle.rebuild_answers.specs.Meanings.{RebuildMeans, GuidedMeans};
 ghost use Rattle.sheet_rules.specs.Sheets.{leaves-of, offset-of, name-start, name};
 ghost use Rattle.sheet_rules.specs.Operations.{check-sheet-answer};
@@ -25,11 +24,13 @@ ghost use Rattle.sheet_tables.specs.Operations.{sheet-table-answer};
 ghost use Rattle.sheet_names.specs.Operations.{name-answer};
 ghost use Rattle.sheet_trees.specs.Operations.{sheet-bytes-answer};
 ghost use Rattle.sheet_trees.specs.Meanings.{SheetBytesMean};
-ghost use Rattle.newick_rules.specs.Operations.{import-answer, import-record, export-answer};
+ghost use Rattle.newick_rules.specs.Operations.{import-answer, export-answer};
 ghost use Rattle.newick_rules.specs.Meanings.{ImportMeans};
 ghost use Rattle.poll_rules.specs.Operations.{poll-answer};
-ghost use Rattle.replies.specs.Replies.{reply, number-reply, length-reply, reply-with, record-reply};
-ghost use Rattle.replies.specs.Replies.{number-alone};
+ghost use Rattle.replies.specs.Replies.{reply, number-reply, length-reply, reply-with, number-alone};
+ghost use Rattle.record_operations.specs.Operations.{rebuild-record, guided-record, import-record};
+ghost use Rattle.record_operations.specs.Operations.{restandardise-record};
+ghost use Rattle.record_replies.specs.Replies.{record-reply};
 
 // Whether a listing keeps the rules: 1, 2, 7, 8.
 #[no_mangle]
@@ -62,7 +63,12 @@ pub extern "C" fn quartree_restandardise(
     ensures buffer { λ r. ⌜ now (out .exit)
         ≡ written (standardise-answer n (now (listing .entry)) (length (now (out .entry)))) (now (out .entry)) ⌝ }
 {
-    replies::record_reply(standard_listings::restandardise(n, origin_of(origin), listing, out))
+    record_replies::record_reply(record_operations::restandardise(
+        n,
+        origin_of(origin),
+        listing,
+        out,
+    ))
 }
 
 // The splits of the tree that a listing stands for, as leaf sets: 1, 2, 3, 7, 8.
@@ -122,7 +128,7 @@ pub extern "C" fn quartree_rebuild(n: usize, poll: u32, cells: &[u32], out: &mut
         (RebuildMeans (kind-of poll) n (now (cells .entry)) (length (now (out .entry)))) r
         (now (out .entry)) (now (out .exit)) ⌝ }
 {
-    replies::record_reply(own_rebuild::rebuild(kind_of(poll), n, cells, out))
+    record_replies::record_reply(record_operations::rebuild(kind_of(poll), n, cells, out))
 }
 
 // The guided rebuild, and rebuilt as the figure: 1, 2, 3, 4, 5, 12.
@@ -143,7 +149,13 @@ pub extern "C" fn quartree_rebuild_guided(
         (GuidedMeans (kind-of poll) n (now (cells .entry)) (now (merges .entry)) (length (now (out .entry)))) r
         (now (out .entry)) (now (out .exit)) ⌝ }
 {
-    replies::record_reply(guided_rebuild::rebuild_guided(kind_of(poll), n, cells, merges, out))
+    record_replies::record_reply(record_operations::rebuild_guided(
+        kind_of(poll),
+        n,
+        cells,
+        merges,
+        out,
+    ))
 }
 
 // Whether a sheet keeps the rules, and its leaf count as the figure: 13, 1, 14, 15, 16.
@@ -206,7 +218,7 @@ pub extern "C" fn quartree_import(sheet: &[u8], text: &[u8], out: &mut [u16]) ->
         (ImportMeans (now (sheet .entry)) (now (text .entry)) (length (now (out .entry)))) r
         (now (out .entry)) (now (out .exit)) ⌝ }
 {
-    replies::record_reply(newick_import::import(sheet, text, out))
+    record_replies::record_reply(record_operations::import(sheet, text, out))
 }
 
 // A poll added up: 1, 2, 3, 10, 11.

@@ -37,10 +37,10 @@ fn main() {
     let mut input = [0u8; INPUT];
     let got = io::read_full(0, &mut input);
     let mut listing = [0u16; LISTING];
-    let answer = sheet_trees::listing_of(&input[..got], &mut listing);
+    let answer = record_operations::rebuild_sheet(&input[..got], &mut listing);
     let TreeOutcome::Marked(_) = answer else {
         io::write_all(1, b"refused ");
-        io::print_decimal(1, replies::record_number(answer) as u64);
+        io::print_decimal(1, record_replies::record_number(answer) as u64);
         io::write_all(1, b"\n");
         return;
     };

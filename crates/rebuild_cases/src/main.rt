@@ -36,7 +36,7 @@ const FIVE: [u32; 25] = [
 // A table of five leaves by our own rebuild.
 fn rebuild(words: &[u8], cells: &[u32]) {
     let mut listing = [9u16; 6];
-    let answer: TreeOutcome = own_rebuild::rebuild(Kind::Counts, 5, cells, &mut listing);
+    let answer: TreeOutcome = record_operations::rebuild(Kind::Counts, 5, cells, &mut listing);
     say_tree(words, answer);
     say_listing(&listing);
 }
@@ -53,7 +53,7 @@ fn rebuilt() {
 // A table of five leaves guided by these merges.
 fn guide(words: &[u8], cells: &[u32], merges: &[u16]) {
     let mut listing = [9u16; 6];
-    let answer: TreeOutcome = guided_rebuild::rebuild_guided(
+    let answer: TreeOutcome = record_operations::rebuild_guided(
         Kind::Counts,
         5,
         cells,

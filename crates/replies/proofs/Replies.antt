@@ -2,21 +2,15 @@
 -- numbers in one figure can be taken apart again; it is 0 exactly when the call is accepted with nothing to say.
 use mathlib.Core.Path.{_≡_, refl, ap, sym, _∙_}
 use mathlib.Core.Logic.{_↔_}
-use mathlib.Core.List.{List}
 use Prim.Native.Nat.{ℕ, _+_, _*_, _/_, _%_, _<_}
 use native.Mathlib.Omega.{arith}
 use Rattle.refusals.specs.declared.Outcome.{Outcome}
 use Rattle.refusals.specs.declared.Refusal.the-variants.{Halves, NoTree}
 use Rattle.refusals.specs.Refusals.{number-of, figures-of, Answer, accepted, refused, outcome}
 use Rattle.refusals.proofs.Answers.{accepted-not-refused, accepted-same}
-use Rattle.tree_records.specs.declared.Origin.{Origin}
-use Rattle.tree_records.specs.declared.Origin.the-variants.{Rebuilt}
-use Rattle.tree_records.specs.declared.TreeOutcome.{TreeOutcome}
-use Rattle.tree_records.specs.Origins.{origin-number}
-use Rattle.tree_records.specs.Records.{TreeRecord, marked, tree-outcome}
 use Rattle.replies.specs.Replies.{eight-bits, figure-limit, in-one, figure, reply, number-reply, reply-with}
-use Rattle.replies.specs.Replies.{record-reply, number-alone}
-use Rattle.replies.specs.inner.Outcomes.{outcome-reply, outcome-reply-with, tree-outcome-reply, outcome-number}
+use Rattle.replies.specs.Replies.{number-alone}
+use Rattle.replies.specs.inner.Outcomes.{outcome-reply, outcome-reply-with, outcome-number}
 use Rattle.replies.proofs.Numbers.{numbered}
 
 -- A number of eight bits and a figure, taken apart: a figure below the limit is told whole.
@@ -157,22 +151,3 @@ number-reply-zero (refused r) l = unfold number-reply in (
   λ h. absurd (omega (arith, numbered r .0)),
   λ h. absurd (accepted-not-refused 0 r (sym h)),
 )
-
--- The reply of a call that makes a tree record.
-pub record-replied :
-    {r : ℕ} {q : TreeOutcome} (a : Answer TreeRecord) → r ≡ tree-outcome-reply q → q ≡ tree-outcome a
-    → r ≡ record-reply a
-unfolding tree-outcome record-reply
-record-replied (accepted R) h e = rw e at h
-record-replied (refused x) h e = rw e at h
-
--- It is that of a call with the origin's number for a result.
-pub record-reply-is :
-    (n : ℕ) (o : Origin) (a : Answer (List ℕ)) → record-reply (marked n o a) ≡ reply-with (origin-number o) a
-unfolding marked record-reply reply-with
-record-reply-is n o (accepted l) = refl
-record-reply-is n o (refused r) = refl
-
--- So where the tree is rebuilt, it is that of a call with nothing to say: 0 exactly when it is accepted.
-pub rebuilt-reply : (n : ℕ) (a : Answer (List ℕ)) → record-reply (marked n Rebuilt a) ≡ reply a
-rebuilt-reply n a = record-reply-is n Rebuilt a ∙ sym (reply-is a)

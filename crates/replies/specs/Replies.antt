@@ -5,8 +5,6 @@ use Prim.Native.Nat.{ℕ, _+_, _*_, _%_, _^_}
 use lib.ListN.{length}
 use Rattle.refusals.specs.declared.Refusal.{Refusal}
 use Rattle.refusals.specs.Refusals.{number-of, figures-of, Answer, accepted, refused}
-use Rattle.tree_records.specs.Origins.{origin-number}
-use Rattle.tree_records.specs.Records.{TreeRecord}
 
 -- how many numbers eight bits hold
 abbrev pub eight-bits : ℕ
@@ -48,11 +46,6 @@ length-reply (refused r) = refusal-reply r
 unfoldable pub reply-with : {A : Type 0} → ℕ → Answer A → ℕ
 reply-with n (accepted x) = in-one 0 n
 reply-with n (refused r) = refusal-reply r
-
--- the reply of a call that makes a tree record, its listing in a buffer: the origin's number is the figure
-unfoldable pub record-reply : Answer TreeRecord → ℕ
-record-reply (accepted R) = in-one 0 (origin-number (R .origin))
-record-reply (refused r) = refusal-reply r
 
 -- the answer of a call that says its refusal's number alone, and no figure: 0, or that number
 unfoldable pub number-alone : {A : Type 0} → Answer A → ℕ

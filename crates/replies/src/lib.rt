@@ -1,13 +1,11 @@
 // The reply of a C call: the number of a refusal, or 0, and a figure, in one number of 64 bits.
 use refusals::Outcome;
 use refusals::Refusal;
-use tree_records::TreeOutcome;
 ghost use mathlib.Core.Path.{_≡_};
 ghost use Prim.Native.Nat.{_+_, _*_, _%_, _<_};
 ghost use Rattle.refusals.specs.Refusals.{figures-of};
 ghost use Rattle.replies.specs.Replies.{eight-bits, figure-limit, figure, in-one, refusal-reply};
-ghost use Rattle.replies.specs.inner.Outcomes.{outcome-reply, outcome-reply-with, tree-outcome-reply};
-ghost use Rattle.replies.specs.inner.Outcomes.{outcome-number, tree-outcome-number};
+ghost use Rattle.replies.specs.inner.Outcomes.{outcome-reply, outcome-reply-with, outcome-number};
 
 // How many numbers eight bits hold, and how many 56 do.
 const EIGHT_BITS: usize = 256;
@@ -80,16 +78,6 @@ pub fn reply_of(answer: Outcome) -> u64
     reply_with(0, answer)
 }
 
-// The reply of a call that makes a tree record, its listing in a buffer: the figure is the origin's number.
-pub fn record_reply(answer: TreeOutcome) -> u64
-    ensures { λ x. ⌜ x ≡ tree-outcome-reply answer ⌝ }
-{
-    match answer {
-        TreeOutcome::Marked(origin) => in_one(0, tree_records::number(origin)),
-        TreeOutcome::Refused(r) => refusal_reply(r),
-    }
-}
-
 // The number of an answer: 0, or the refusal's.
 pub fn answer_number(answer: Outcome) -> u32
     ensures { λ k. ⌜ k ≡ outcome-number answer ⌝ }
@@ -98,14 +86,4 @@ pub fn answer_number(answer: Outcome) -> u32
         return 0;
     };
     refusals::number(r)
-}
-
-// The same of an answer that tells where a tree came from.
-pub fn record_number(answer: TreeOutcome) -> u32
-    ensures { λ k. ⌜ k ≡ tree-outcome-number answer ⌝ }
-{
-    match answer {
-        TreeOutcome::Marked(_) => 0,
-        TreeOutcome::Refused(r) => refusals::number(r),
-    }
 }

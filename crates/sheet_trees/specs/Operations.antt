@@ -1,10 +1,8 @@
 -- The tree of a strain sheet, as its standard listing: the answers, the refusals in the order in which they are
--- judged; and the tree record, of origin rebuilt.
+-- judged.
 use mathlib.Core.List.{List, flatMap}
 use Prim.Native.Nat.{ℕ, _-_, _*_}
 use Rattle.refusals.specs.Refusals.{Answer, accepted, refused, unless}
-use Rattle.tree_records.specs.declared.Origin.the-variants.{Rebuilt}
-use Rattle.tree_records.specs.Records.{TreeRecord, marked}
 use Rattle.merging.specs.Rebuilds.{rebuilt}
 use Rattle.byte_numbers.specs.Bytes.{low-first}
 use Rattle.sheet_rules.specs.Sheets.{leaves-of, cells-of}
@@ -18,9 +16,6 @@ sheet-tree S = rebuilt (leaves-of S) 1 (table-with (leaves-of S) (cells-of S))
 -- sheet in, listing out: 13, 1, 14, 3, 15, 16, then 6
 unfoldable pub sheet-listing-answer : (S : List ℕ) (room : ℕ) → Answer (List ℕ)
 sheet-listing-answer S room = unless (sheet-refusal S (2 * (leaves-of S - 2)) room) (sheet-tree S)
-
-unfoldable pub sheet-record : (S : List ℕ) (room : ℕ) → Answer TreeRecord
-sheet-record S room = marked (leaves-of S) Rebuilt (sheet-listing-answer S room)
 
 -- a listing in bytes: each of its numbers in two, low byte first
 unfoldable pub in-bytes : Answer (List ℕ) → Answer (List ℕ)

@@ -1,21 +1,16 @@
 // The tree of a strain sheet: sheet in, listing out.
 use refusals::Outcome;
 use sheets::Figures;
-use tree_records::Origin;
-use tree_records::TreeOutcome;
-use tree_records::mark;
 ghost use mathlib.Core.Path.{_≡_};
 ghost use mathlib.Core.Option.{none};
 ghost use Prim.Native.Nat.{_-_, _*_, _≤_};
 ghost use lib.ListN.{length};
 ghost use Rattle.refusals.specs.Refusals.{outcome-of, outcome, written};
 ghost use Rattle.refusals.specs.Meanings.{Gives};
-ghost use Rattle.tree_records.specs.Records.{tree-outcome};
 ghost use Rattle.sheet_rules.specs.Sheets.{leaves-of};
 ghost use Rattle.sheet_rules.specs.Operations.{sheet-refusal};
 ghost use Rattle.sheets.specs.inner.Figures.{FiguresOf};
-ghost use Rattle.sheet_trees.specs.Operations.{sheet-tree, sheet-listing-answer, sheet-record};
-ghost use Rattle.sheet_trees.specs.Operations.{sheet-bytes-answer};
+ghost use Rattle.sheet_trees.specs.Operations.{sheet-tree, sheet-listing-answer, sheet-bytes-answer};
 ghost use Rattle.sheet_trees.specs.Meanings.{SheetBytesMean};
 
 mod bytes;
@@ -50,7 +45,7 @@ fn tree_of(sheet: &[u8], figures: Figures, listing: &mut [u16]) -> Outcome
 
 // Writes the standard listing of the tree that has the sheet's table at the front of `listing`: 13, 1, 14, 3, 15, 16,
 // then 6.
-fn rebuilt_listing(sheet: &[u8], listing: &mut [u16]) -> Outcome
+pub fn listing_of(sheet: &[u8], listing: &mut [u16]) -> Outcome
     ensures answer { λ r. ⌜ r ≡ outcome (sheet-listing-answer (now (sheet .entry)) (length (now (listing .entry)))) ⌝ }
     ensures buffer { λ r. ⌜ now (listing .exit)
         ≡ written (sheet-listing-answer (now (sheet .entry)) (length (now (listing .entry)))) (now (listing .entry)) ⌝ }
@@ -61,15 +56,6 @@ fn rebuilt_listing(sheet: &[u8], listing: &mut [u16]) -> Outcome
         return judged;
     };
     tree_of(sheet, figures, listing)
-}
-
-// The tree of a sheet: writes that listing, and marks the tree rebuilt.
-pub fn listing_of(sheet: &[u8], listing: &mut [u16]) -> TreeOutcome
-    ensures answer { λ r. ⌜ r ≡ tree-outcome (sheet-record (now (sheet .entry)) (length (now (listing .entry)))) ⌝ }
-    ensures buffer { λ r. ⌜ now (listing .exit)
-        ≡ written (sheet-listing-answer (now (sheet .entry)) (length (now (listing .entry)))) (now (listing .entry)) ⌝ }
-{
-    mark(Origin::Rebuilt, rebuilt_listing(sheet, listing))
 }
 
 // The same as bytes: two for each number of the listing, low byte first.

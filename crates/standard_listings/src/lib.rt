@@ -1,24 +1,20 @@
-// The operations standardise and restandardise: the standard listing of the tree that a listing stands for. One pass
-// over the rows finds the least leaf under each number and puts the children of each node into order; then the nodes
-// are written in post-order by a recursion that returns the next row.
+// The operation standardise: the standard listing of the tree that a listing stands for. One pass over the rows finds
+// the least leaf under each number and puts the children of each node into order; then the nodes are written in
+// post-order by a recursion that returns the next row.
 use limits::MOST_NUMBERS;
 use limits::MOST_ROWS;
 use listings::Row;
 use listings::row_at;
 use numbers::index_of_u16;
 use refusals::Outcome;
-use tree_records::Origin;
-use tree_records::TreeOutcome;
-use tree_records::mark;
 ghost use mathlib.Core.Path.{_≡_};
 ghost use mathlib.Core.List.{List, _++_};
 ghost use Prim.Native.Nat.{ℕ, _+_, _-_, _*_, _≤_, _<_};
 ghost use lib.ListN.{length, getD, drop};
 ghost use Rattle.limits.specs.Limits.{IsLeafCount, most-rows, most-numbers};
 ghost use Rattle.refusals.specs.Refusals.{outcome, written};
-ghost use Rattle.tree_records.specs.Records.{tree-outcome};
 ghost use Rattle.trees.specs.Listings.{KeepsRules, tree-of, standard};
-ghost use Rattle.standard_listings.specs.Operations.{standardise-answer, restandardise-record};
+ghost use Rattle.standard_listings.specs.Operations.{standardise-answer};
 ghost use Rattle.standard_listings.specs.inner.Standardising.{standard-first, standard-second};
 ghost use Rattle.standard_listings.specs.inner.Standardising.{known-least, Leasts, InOrder, AtNode, RowFits};
 ghost use Rattle.standard_listings.specs.inner.Standardising.{child-number, with-row, SubtreeRowsFit};
@@ -165,14 +161,4 @@ pub fn standardise(n: usize, listing: &[u16], out: &mut [u16]) -> Outcome
     };
     standard_rows(n, listing, out);
     judged
-}
-
-// Writes the standard listing of a record's tree at the front of `out`: the tree and its origin stay.
-pub fn restandardise(n: usize, origin: Origin, listing: &[u16], out: &mut [u16]) -> TreeOutcome
-    ensures answer { λ r. ⌜ r
-        ≡ tree-outcome (restandardise-record n (now (listing .entry)) origin (length (now (out .entry)))) ⌝ }
-    ensures buffer { λ r. ⌜ now (out .exit)
-        ≡ written (standardise-answer n (now (listing .entry)) (length (now (out .entry)))) (now (out .entry)) ⌝ }
-{
-    mark(origin, standardise(n, listing, out))
 }

@@ -3,11 +3,12 @@ use borrow.Author.Needs.{needs}
 use Rattle.refusals.proofs.Meanings.{with-meaning}
 use Rattle.tree_records.specs.declared.Origin.the-variants.{Imported}
 use Rattle.tree_records.specs.Records.{marked}
-use Rattle.newick_rules.specs.Operations.{import-answer, import-record}
+use Rattle.newick_rules.specs.Operations.{import-answer}
 use Rattle.newick_rules.specs.Meanings.{ImportMeans}
 use Rattle.newick_rules.proofs.Sheets.{import-answer-says}
-use Rattle.replies.specs.Replies.{record-reply}
-use Rattle.replies.proofs.Replies.{record-replied}
+use Rattle.record_operations.specs.Operations.{import-record}
+use Rattle.record_replies.specs.Replies.{record-reply}
+use Rattle.record_replies.proofs.Replies.{record-replied}
 use Rattle.quartree.proofs.quartree_import.Statement.{statement}
 use Rattle.quartree.proofs.quartree_import.Tie as tie
 

@@ -3,10 +3,10 @@
 use borrow.Author.Needs.{needs}
 use Rattle.tree_records.specs.declared.Origin.the-variants.{Rebuilt}
 use Rattle.tree_records.specs.Records.{marked}
-use Rattle.rebuild_answers.specs.Operations.{rebuild-record}
 use Rattle.rebuild_answers.proofs.Promises.{rebuild-gives}
-use Rattle.replies.specs.Replies.{record-reply}
-use Rattle.replies.proofs.Replies.{record-replied}
+use Rattle.record_operations.specs.Operations.{rebuild-record}
+use Rattle.record_replies.specs.Replies.{record-reply}
+use Rattle.record_replies.proofs.Replies.{record-replied}
 use Rattle.quartree.proofs.quartree_rebuild.Statement.{statement}
 use Rattle.quartree.proofs.quartree_rebuild.Tie as tie
 

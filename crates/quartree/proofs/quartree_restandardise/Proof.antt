@@ -1,6 +1,6 @@
 -- `quartree::quartree_restandardise` meets its contract: reply and buffer are those of the operation that it calls.
 use borrow.Author.Needs.{needs}
-use Rattle.replies.proofs.Replies.{record-replied}
+use Rattle.record_replies.proofs.Replies.{record-replied}
 use Rattle.quartree.proofs.quartree_restandardise.Statement.{statement}
 use Rattle.quartree.proofs.quartree_restandardise.Tie as tie
 

@@ -2,8 +2,8 @@
 use mathlib.Core.Path.{sym, _∙_}
 use borrow.Author.Needs.{needs}
 use Rattle.tree_records.proofs.Records.{mark-done}
-use Rattle.sheet_trees.specs.Operations.{sheet-record}
 use Rattle.sheet_trees.proofs.Listed.{done-count}
+use Rattle.record_operations.specs.Operations.{sheet-record}
 use Rattle.rebuild.proofs.main.Statement.{statement}
 use Rattle.rebuild.proofs.main.Tie as tie
 
@@ -15,7 +15,7 @@ unfolding sheet-record
 print-rows-requires c κs =
     let counted = c .before .before .before .before .before .before in
     let told = counted .before .before in
-    let marked = sym (told .before .before .before .listing-of .ensures .0) ∙ told .enum-told .given .1 in
+    let marked = sym (told .before .before .before .rebuild-sheet .ensures .0) ∙ told .enum-told .given .1 in
     let done = mark-done _ _ _ marked in
     rw (counted .leaf-count-of .ensures .0) (done-count _ _ done .1)
 

@@ -1,7 +1,7 @@
--- `replies::record_reply` meets its contract: the origin's number is the figure, or the refusal decides.
+-- `record_replies::record_reply` meets its contract: the origin's number is the figure, or the refusal decides.
 use borrow.Author.Needs.{needs}
-use Rattle.replies.proofs.record_reply.Statement.{statement}
-use Rattle.replies.proofs.record_reply.Tie as tie
+use Rattle.record_replies.proofs.record_reply.Statement.{statement}
+use Rattle.record_replies.proofs.record_reply.Tie as tie
 
 returns : tie.Need-returns
 returns c =

@@ -1,9 +1,10 @@
--- `standard_listings::restandardise` meets its contract: `standardise` decides and writes, and the origin is passed on.
+-- `record_operations::restandardise` meets its contract: `standardise` decides and writes, and the origin is
+-- passed on.
 use borrow.Author.Needs.{needs}
 use Rattle.tree_records.proofs.Records.{mark-told}
-use Rattle.standard_listings.specs.Operations.{restandardise-record}
-use Rattle.standard_listings.proofs.restandardise.Statement.{statement}
-use Rattle.standard_listings.proofs.restandardise.Tie as tie
+use Rattle.record_operations.specs.Operations.{restandardise-record}
+use Rattle.record_operations.proofs.restandardise.Statement.{statement}
+use Rattle.record_operations.proofs.restandardise.Tie as tie
 
 returns : tie.Need-returns
 unfolding restandardise-record
