@@ -25,7 +25,7 @@ use Rattle.merging.specs.Rebuilds.{rebuilt, stop-at, guided}
 use Rattle.merging.proofs.States.{WellFormed, wf-start, step-move}
 use Rattle.merging.specs.inner.Runs.{Eligible}
 use Rattle.merging.proofs.Runs.{wf-runs, runs-more, eligible-sound, eligible-complete, eligible-sym, step-sym}
-use Rattle.merging.proofs.Runs.{eligible-move}
+use Rattle.merging.proofs.Runs.{differ, eligible-move}
 use Rattle.merging.proofs.Rebuilds.{stop-eligible, stop-refused}
 use Rattle.merging.proofs.Demand3.{guided-own}
 use Rattle.rebuild_answers.specs.Operations.{proposals}
@@ -72,7 +72,7 @@ module _ {n s : ℕ} {table p label m sizes : List ℕ} {a b : ℕ} (q : Labels 
   module _ (d : a ≢ b) where
     pub two-labels : TwoLabels n table label m sizes p a b
     two-labels = record {
-      fair = fair w (u .holds) (u .came) (q .given);
+      fair = fair w (u .holds) (q .given);
       first = q .first;
       second = q .second;
       differ = d;
@@ -101,13 +101,13 @@ module _ {n s : ℕ} {table p label m sizes : List ℕ} {a b : ℕ} (q : Labels 
       pub merged-up :
           {label′ m′ sizes′ : List ℕ} → a < b → Merged n label m sizes p label′ m′ sizes′ a b → Next label′ m′ sizes′
       merged-up l e =
-          (pair, holds-step w (u .holds) a b l (q .own-first) (q .own-second) pair (q .given) e)
+          (pair, holds-step w (u .holds) a b l (q .own-first) (q .own-second) (differ pair) (q .given) e)
 
       pub merged-down :
           {label′ m′ sizes′ : List ℕ} → b < a → Merged n label m sizes p label′ m′ sizes′ b a → Next label′ m′ sizes′
       merged-down l e =
           let turned = eligible-sym (halves-equal (q .given .is-table)) w a b pair in
-          let h = holds-step w (u .holds) b a l (q .own-second) (q .own-first) turned (q .given) e in
+          let h = holds-step w (u .holds) b a l (q .own-second) (q .own-first) (differ turned) (q .given) e in
           (pair, rw (step-sym w a b pair) h)
 
 -- Two leaves i and j, and their labels a and b: the proposal of the leaves is that of the labels.

@@ -23,7 +23,8 @@ use Rattle.trees.proofs.SubtreesByRow.{subtree-at-leaf}
 use Rattle.merging.specs.Merging.{State, start, step}
 use Rattle.merging.proofs.States.{WellFormed, wf-start, step-in, step-out}
 use Rattle.merging.specs.inner.Runs.{halt, Eligible}
-use Rattle.merging.proofs.Runs.{wf-go, wf-runs, runs-more, eligible-sym, eligible-move, eligible-back, subtrees-step}
+use Rattle.merging.proofs.Runs.{differ, wf-go, wf-runs, runs-more, eligible-sym, eligible-move, eligible-back}
+use Rattle.merging.proofs.Runs.{subtrees-step}
 use Rattle.merging.proofs.MergeLists.{subtrees-start, subtrees-pos}
 use Rattle.state_arrays.specs.inner.Fits.{Given, SizesFit}
 use Rattle.leaf_merges.specs.inner.Partners.{Joins}
@@ -63,10 +64,10 @@ module _ {n s : ℕ} {S : State} (w : WellFormed n S) {label m sizes names rows 
   name-k : Name k
   name-k = l .named k (omega arith) (e .right) ok
 
-  differ :
+  names-differ :
       (x y : ℕ) → x < n → y < n → getD label x 0 ≡ x → getD label y 0 ≡ y → Name x → Name y → x ≢ y
       → getD names x 0 ≢ getD names y 0
-  differ x y lx ly ox oy u v z q =
+  names-differ x y lx ly ox oy u v z q =
       z (sym (is-least w h x lx ox) ∙ ap least (sym (u .1) ∙ ap (subtree-at n old) q ∙ v .1) ∙ is-least w h y ly oy)
 
   module _ (few : n ≤ most-leaves) where
@@ -109,10 +110,10 @@ module _ {n s : ℕ} {S : State} (w : WellFormed n S) {label m sizes names rows 
             let own-name = getD-set-same names i (n + r) 0 (omega (arith, l .names-long, e .left)) in
             rw (z, own-name) (node-unused n r old long a b, new-node)
         | no z ↦
-            let u = still w h i k ik oi ok e g d x lx o z in
+            let u = still w h i k ik oi ok (differ e) g d x lx o z in
             let v = l .named x zx lx (u .0) in
-            let not-i = differ x i lx (e .left) (u .0) oi v name-i z in
-            let not-k = differ x k lx (e .right) (u .0) ok v name-k (u .1) in
+            let not-i = names-differ x i lx (e .left) (u .0) oi v name-i z in
+            let not-k = names-differ x k lx (e .right) (u .0) ok v name-k (u .1) in
             rw (getD-set-other names i x (n + r) 0 z, u .2) (
               still-unused n r old long a b (getD names x 0) (v .0) not-i not-k,
               subtree-at-old n r old long a b (getD names x 0) (below x v) ∙ v .1,
@@ -124,7 +125,7 @@ module _ {n s : ℕ} {S : State} (w : WellFormed n S) {label m sizes names rows 
         names-long = length-set names i (n + r) ∙ l .names-long;
         rows-long = length-set (set rows (2 * r) a) (2 * r + 1) b ∙ length-set rows (2 * r) a ∙ l .rows-long;
         kept =
-            let apart-names = differ i k (e .left) (e .right) oi ok name-i name-k (omega arith) in
+            let apart-names = names-differ i k (e .left) (e .right) oi ok name-i name-k (omega arith) in
             rw added (row-kept n r old long a b (l .kept) (name-i .0) (name-k .0) apart-names);
         named = rw added named′;
         counted = omega (arith, l .counted, subtrees-step w i k e);
@@ -183,7 +184,7 @@ module _ {n s : ℕ} {table p label m sizes names rows : List ℕ} {r t : ℕ} (
   own-label = b .forest .holds .labels t lt ∙ b .current .own
 
   pub leaf-merge-sizes-fit : SizesFit n table label m sizes p
-  leaf-merge-sizes-fit = fair w (b .forest .holds) (b .forest .came) g
+  leaf-merge-sizes-fit = fair w (b .forest .holds) g
 
   -- A merge with the partner k.
   module _ (k : ℕ) (lk : k < n) (f : (t < k) × Joins n table label m sizes p t k) where
@@ -254,7 +255,7 @@ module _ {n s : ℕ} {table p label m sizes names rows : List ℕ} {r t : ℕ} (
           state = step (b .state) t k;
           forest = record {
             came = runs-more (b .forest .came) t k pair;
-            holds = holds-step w h t k tk own-label ok pair g d;
+            holds = holds-step w h t k tk own-label ok (differ pair) g d;
             listed = rw (en, er) l;
           };
           current = current-step;

@@ -28,7 +28,7 @@ use Rattle.trees.proofs.Rules.{of-lawful}
 use Rattle.merging.specs.Rebuilds.{rebuilt}
 use Rattle.merging.proofs.States.{WellFormed, wf-start, full-sizes}
 use Rattle.merging.proofs.Runs.{wf-runs}
-use Rattle.merging.proofs.Values.{m-pairs}
+use Rattle.merging.proofs.Values.{m-most}
 use Rattle.merging.proofs.Rooted.{Rooted, rooted-result, rooted-two, rooted-refused}
 use Rattle.checks.proofs.Sizes.{sizes-pass}
 use Rattle.listings.specs.Operations.{listing-refusal}
@@ -53,7 +53,7 @@ module _ {n s : ℕ} {table label m sizes names rows : List ℕ} {r : ℕ} (coun
   zero-size = rw zero (unfold size in refl)
 
   m-zero : b .state .m 0 ≡ 0
-  m-zero = omega (arith, rw (zero-size, P-zero) at (m-pairs (b .forest .came) 0))
+  m-zero = omega (arith, rw (zero-size, P-zero) at (m-most w 0))
 
   one-out : leaves (b .state .tree 0) 1 ≡ false
   one-out = rw zero (is-false (leaves (leaf 0) 1) (λ q. omega (arith, leaf-eq 1 0 q)))

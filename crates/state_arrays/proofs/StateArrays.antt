@@ -26,8 +26,8 @@ use Rattle.trees.proofs.Trees.{least-in, least-join, size-join}
 use Rattle.merging.specs.Merging.{State, start, step}
 use Rattle.merging.proofs.States.{WellFormed, step-in, step-out, step-m-left, step-m-right, step-m-out, apart}
 use Rattle.merging.proofs.States.{two-fit}
-use Rattle.merging.specs.inner.Runs.{Eligible, Runs}
-use Rattle.merging.proofs.Values.{m-pairs}
+use Rattle.merging.specs.inner.Runs.{Differ, Eligible}
+use Rattle.merging.proofs.Values.{m-most}
 use Rattle.state_arrays.specs.inner.Fits.{ScaledCounts, counts-scale, Given, SmallSums, SubtreesFit}
 use Rattle.state_arrays.specs.inner.Fits.{SizesFit, TwoLabels}
 use Rattle.state_arrays.specs.inner.Merged.{relabelled, label-at, m-at, MergeReady}
@@ -119,12 +119,12 @@ module _ {n s : ℕ} {S : State} (w : WellFormed n S) {label m sizes : List ℕ}
         e .cells x y (in-label i li oi x lx px) (in-label k lk ok y ly py) ∙ sym (expected-is x y lx ly)
 
   -- what a test has to know
-  module _ {c : ℕ → ℕ → ℕ} (r : Runs n s c start S) {t p : List ℕ} (g : Given n s t p) where
+  module _ {t p : List ℕ} (g : Given n s t p) where
     small : SmallSums n m
     small k l =
         let size-le : size (S .tree k) ≤ n = rw (w .sized k l) (count-le n (leaves (S .tree k))) in
         let most = P-mono (size (S .tree k) - 1) most-leaves (omega (arith, g .leaf-count)) in
-        rw (h .sums k l) (mul-le-mul (g .scaled .1) (omega (arith, m-pairs r k, most)))
+        rw (h .sums k l) (mul-le-mul (g .scaled .1) (omega (arith, m-most w k, most)))
 
     small-counts : SmallSums (n + 1) p
     small-counts k l =
@@ -155,8 +155,8 @@ module _ {n s : ℕ} {S : State} (w : WellFormed n S) {label m sizes : List ℕ}
   }
 
   -- A merge of the subtrees labelled i and k, i < k.
-  module _ {c : ℕ → ℕ → ℕ} (i k : ℕ) (ik : i < k) (oi : getD label i 0 ≡ i) (ok : getD label k 0 ≡ k)
-      (e : Eligible n s c S i k) {t p : List ℕ} (g : Given n s t p) {label′ m′ sizes′ : List ℕ}
+  module _ (i k : ℕ) (ik : i < k) (oi : getD label i 0 ≡ i) (ok : getD label k 0 ≡ k) (e : Differ n S i k)
+      {t p : List ℕ} (g : Given n s t p) {label′ m′ sizes′ : List ℕ}
       (d : Merged.Merged n label m sizes p label′ m′ sizes′ i k) where
     few : n ≤ most-leaves
     few = g .leaf-count .1
