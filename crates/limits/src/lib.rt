@@ -19,6 +19,9 @@ pub const MOST_NUMBERS: usize = 2 * MOST_ROWS;
 // The cells of the largest table.
 pub const MOST_CELLS: usize = MOST_LEAVES * MOST_LEAVES;
 
+// The pairs of the most leaves.
+pub const MOST_PAIRS: usize = MOST_LEAVES * (MOST_LEAVES - 1) / 2;
+
 // The bytes of a leaf set: one bit a leaf, in whole words of 64 bits.
 pub const SET_BYTES: usize = 8 * ((MOST_LEAVES + 63) / 64);
 
