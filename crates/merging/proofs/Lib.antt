@@ -8,6 +8,7 @@ mod ThreeSubtrees
 mod Exchange
 pub mod Rebuilds
 mod Ends
+pub mod Means
 pub mod Rooted
 pub mod Demand3
 pub mod Meaning
