@@ -264,8 +264,10 @@ module _ (n s : ℕ) (t : List ℕ) (halves : EqualHalves n (cell n t)) {S : Sta
       rw (g .least-first, g .least-other)
       at (f .ties (q .0) (q .1) (dq .left) (dq .right) (dq .apart) up no-larger)
 
+  pub nearest-same : (p q : Pair) → IsNearest n s c S p → IsNearest n s c S q → p ≡ q
+  nearest-same p q f g = not-behind-same p q (not-behind p q f g) (not-behind q p g f)
+
   pub nearest-only : (p : Pair) → IsNearest n s c S p → nearest n s t S ≡ some p
   nearest-only p g =
       let r = nearest-some (p .0) (p .1) (nearest-differ g) in
-      let f = nearest-is (r .0) (r .1) in
-      r .1 ∙ ap some (not-behind-same (r .0) p (not-behind (r .0) p f g) (not-behind p (r .0) g f))
+      r .1 ∙ ap some (nearest-same (r .0) p (nearest-is (r .0) (r .1)) g)
