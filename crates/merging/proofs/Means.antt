@@ -6,7 +6,7 @@ use mathlib.Core.Logic.{_⊎_, inl, inr, _↔_}
 use mathlib.Core.Bool.{Bool, true, false, not, _&&_, _||_, and-comm}
 use mathlib.Core.List.{List}
 use mathlib.Core.Option.{some}
-use Prim.Native.Nat.{ℕ, _+_, _*_, _≤_, _<_}
+use Prim.Native.Nat.{ℕ, _*_, _<_}
 use native.Mathlib.Nat.{add-comm, mul-comm, mul-pos}
 use native.Mathlib.Omega.{arith}
 use native.Mathlib.Decide.{decLt}
@@ -192,7 +192,9 @@ module _ (n s : ℕ) (t : List ℕ) (halves : EqualHalves n (cell n t)) {S : Sta
         | inr l ↦ two y x (d .right) (d .left) l
       ])
     where
-      two : (x y : ℕ) → x < n → y < n → least (S .tree x) < least (S .tree y) → any-in (two-subtrees S) (in-rows n) ≡ true
+      two :
+          (x y : ℕ) → x < n → y < n → least (S .tree x) < least (S .tree y)
+          → any-in (two-subtrees S) (in-rows n) ≡ true
       two x y lx ly l =
           any-in-rows n (two-subtrees S) _ _ (leader-below w x lx) (leader-below w y ly) (are-two w x y l)
 
