@@ -4,3 +4,6 @@ pub mod Sums
 pub mod Lists
 pub mod Filling
 pub mod Searches
+pub mod Fractions
+pub mod RowOrder
+pub mod Least

@@ -1,6 +1,6 @@
 -- Searches from the front: the first of f 0, .., f (n − 1) that passes a test. What is found from a place on is what
 -- stands there, or what is found from the next place on; so a loop that keeps "found from here is found from the
--- start" ends with the answer. And whether some member of a list's first part passes.
+-- start" ends with the answer. Whether some member of a list's first part passes, and whether every member does.
 use mathlib.Core.Path.{_≡_, refl, ap, _∙_}
 use mathlib.Core.Bool.{Bool, true, false}
 use mathlib.Core.List.{List, [], _∷_}
@@ -10,8 +10,8 @@ use native.Mathlib.Numerals.{add-one}
 use native.Mathlib.Omega.{arith}
 use lib.ListN.{length, getD, take, drop, drop-of-length-le}
 use lib.Seq.{drop-cons, length-take-le, getD-take}
-use Rattle.base.specs.Lists.{tab, any-in, find}
-use Rattle.base.proofs.Bools.{or-left, or-right, or-none}
+use Rattle.base.specs.Lists.{tab, any-in, all-in, find}
+use Rattle.base.proofs.Bools.{or-left, or-right, or-none, and-both, and-is}
 use Rattle.base.proofs.Lists.{length-tab, getD-tab}
 
 module _ {A : Type 0} (test : A → Bool) (n : ℕ) (f : ℕ → A) where
@@ -65,3 +65,15 @@ module _ {A : Type 0} (f : A → Bool) (d : A) where
   none-before l p h g = any-none (take p l) (λ k lk.
       let less : k < p = rw (length-take-le p l h) at lk in
       rw (getD-take p l k d less) (g k less))
+
+  -- every member passes exactly when the member at each place does
+  pub all-places : (l : List A) → ((k : ℕ) → k < length l → f (getD l k d) ≡ true) → all-in f l ≡ true
+  unfolding all-in
+  all-places [] h = refl
+  all-places (x ∷ l) h = and-is _ _ (h 0 (omega arith)) (all-places l (λ k lk. h (suc k) (omega arith)))
+
+  pub all-at : (l : List A) → all-in f l ≡ true → (k : ℕ) → k < length l → f (getD l k d) ≡ true
+  unfolding all-in
+  all-at [] h k lk = absurd (omega arith)
+  all-at (x ∷ l) h zero lk = and-both (f x) (all-in f l) h .0
+  all-at (x ∷ l) h (suc k) lk = all-at l (and-both (f x) (all-in f l) h .1) k (omega arith)

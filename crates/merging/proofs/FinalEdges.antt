@@ -24,15 +24,14 @@ use Rattle.trees.proofs.Subtrees.{In, in-whole, in-join, join-left, join-right,
 use Rattle.trees.proofs.Subtrees.{same-sym, same-trans, one-edge-is, subtree-edge, ordered-to, ordered-of}
 use Rattle.trees.proofs.Subtrees.{part-join, join-part}
 use Rattle.trees.proofs.Rerooting.{held-on, held-same, rerooted-side, rerooted-part}
-use Rattle.trees.proofs.Listings.{standard-read}
 use Rattle.merging.specs.Merging.{State, start, merge, step}
-use Rattle.merging.specs.MergeLists.{Pair, run, after, each-eligible, final-listing}
+use Rattle.merging.specs.MergeLists.{Pair, run, after, each-eligible, final-tree, final-listing}
 use Rattle.merging.specs.FinalEdges.{made, sides, FinalEdges}
 use Rattle.merging.specs.inner.Runs.{Differ}
 use Rattle.merging.proofs.States.{WellFormed, Single, wf-start, step-in, step-out, wf-step}
-use Rattle.merging.proofs.MergeLists.{one-single, Merges, wf-run, wf-after, full-one, single-held, single-drawn}
+use Rattle.merging.proofs.MergeLists.{Merges, wf-run, run-last, wf-after, full-single, single-held}
+use Rattle.merging.proofs.MergeLists.{single-drawn, final-read}
 use Rattle.merging.proofs.Runs.{allowed-merges}
-use Rattle.merging.proofs.Ends.{left-is}
 
 -- four merges of five leaves give eight sides: the leaves, and the three subtrees made before the last merge
 sides-example : length (sides 5 ((3, 4) ∷ (0, 1) ∷ (2, 3) ∷ (0, 2) ∷ [])) ≡ 8
@@ -112,11 +111,6 @@ module _ (n : ℕ) where
       let r = merges-last (step S (q .0) (q .1)) M p (m .1) in
       ((m .0, r .0), r .1)
 
-run-last : (S : State) (M : List Pair) (p : Pair) → run S (M ++ (p ∷ [])) ≡ step (run S M) (p .0) (p .1)
-unfolding run
-run-last S [] p = refl
-run-last S (q ∷ M) p = run-last (step S (q .0) (q .1)) M p
-
 made-last : (S : State) (M : List Pair) (p : Pair) → (X : Tree) × (made S (M ++ (p ∷ [])) ≡ made S M ++ (X ∷ []))
 unfolding made
 made-last S [] p = (join (S .tree (p .0)) (S .tree (p .1)), refl)
@@ -147,7 +141,7 @@ module _ (n : ℕ) (big : 3 ≤ n) (M : List Pair) (p : Pair) (size-M : length M
   wf-L = wf-after L ok
 
   one : Single n (after L)
-  one = one-single wf-L (omega arith) (omega (arith, full-one (omega arith) L many ok))
+  one = full-single (omega arith) L many ok
 
   whole-tree : (after L) .tree 0 ≡ join A B
   whole-tree =
@@ -168,7 +162,8 @@ module _ (n : ℕ) (big : 3 ≤ n) (M : List Pair) (p : Pair) (size-M : length M
   d = rw whole-tree at (single-drawn wf-L one (omega arith))
 
   tree-is : tree-of n (final-listing n L) ≡ T
-  tree-is = rw (left-is n L, whole-tree) (standard-read n T big d)
+  unfolding final-tree
+  tree-is = rw whole-tree at (final-read n big L wf-L one)
 
   two : (k : ℕ) → k < n → (leaves A k || leaves B k) ≡ true
   two k l = rw (whole-tree, leaves-join) at (one k l)

@@ -14,7 +14,8 @@ use Rattle.limits.specs.Limits.{IsLeafCount}
 use Rattle.refusals.specs.declared.Refusal.the-variants.{NoTree, Proposal}
 use Rattle.refusals.specs.Refusals.{Answer, accepted, refused}
 use Rattle.refusals.proofs.Answers.{accepted-same, accepted-not-refused}
-use Rattle.trees.specs.Tables.{IsTable}
+use Rattle.trees.specs.Listings.{KeepsRules, tree-of, standard}
+use Rattle.trees.specs.Tables.{HasTable, IsTable}
 use Rattle.merging.specs.MergeLists.{Pair, after, each-eligible, Finished, subtrees, final-listing}
 use Rattle.merging.specs.Rebuilds.{rebuilt, guided}
 use Rattle.merging.specs.Demand3.{OneTree, NoTreeHas, FirstIneligible}
@@ -90,6 +91,13 @@ module _ (n : ℕ) (count : IsLeafCount n) (s : ℕ) (sp : 0 < s) (t : List ℕ)
     | inl one ↦ rw (one .own-rebuild) (the-only-tree (only-left one))
     | inr several ↦ rw (several .own-rebuild) (no-tree (several .none-has-the-table))
   ]
+
+  -- a table that a tree has gets that tree
+  pub rebuilt-had :
+      (l : List ℕ) → KeepsRules n l → HasTable n s t (tree-of n l) → rebuilt n s t ≡ accepted (standard n (tree-of n l))
+  rebuilt-had l k has =
+      let a = meant-accepted n s t rebuilt-means .1 (l, k, has) in
+      a .1 ∙ ap accepted (sym (meant-only n s t rebuilt-means (a .0) (a .1) .no-other l k has))
 
   -- every finished list of eligible merges ends in the one tree, or each leaves more than one subtree
   pub accepted-any-order :

@@ -15,13 +15,14 @@ use Rattle.base.specs.Numbers.{indicator, count-below}
 use Rattle.base.specs.Lists.{any-in, all-in}
 use Rattle.base.proofs.Bools.{bool?, bool-iff, is-false, and-both, and-is, eqb-same}
 use Rattle.base.proofs.Counts.{count-ext, count-drop, count-full, count-all, count-false}
+use Rattle.base.proofs.Searches.{all-places, all-at}
 use Rattle.sheet_rules.specs.Sheets.{same, leaf-named}
 use Rattle.sheet_rules.proofs.Names.{same-is, same-self, named-none}
 use Rattle.newick_rules.specs.Drawings.{Drawing, name, bracket, Parts, names-in}
 use Rattle.newick_rules.specs.Reader.{Open, with-part}
 use Rattle.newick_rules.specs.Importing.{times-in, each-once}
 use Rattle.newick_rules.specs.Operations.{Strains}
-use Rattle.newick_rules.proofs.Strains.{all-places, all-at, found-at, named-here}
+use Rattle.newick_rules.proofs.Strains.{found-at, named-here}
 use Rattle.newick_reading.specs.inner.Naming.{open-names, opens-names, last-names, names-so-far, hits}
 use Rattle.newick_reading.specs.inner.Naming.{RightSoFar, Wrong}
 use Rattle.newick_reading.proofs.Joining.{counted-true}

@@ -14,13 +14,14 @@ use Rattle.base.specs.Lists.{any-in, all-in}
 use Rattle.base.proofs.Bools.{and-both}
 use Rattle.base.proofs.Counts.{indicator-add}
 use Rattle.base.proofs.Lists.{every-both}
+use Rattle.base.proofs.Searches.{all-at}
 use Rattle.trees.specs.Trees.{leaf, occurrences}
 use Rattle.trees.specs.Rerooting.{IsHeld}
 use Rattle.sheet_rules.specs.Sheets.{same, leaf-named}
 use Rattle.newick_rules.specs.Drawings.{Drawing, name, bracket, Parts, one, more, names-in, names-in-parts}
 use Rattle.newick_rules.specs.Importing.{times-in, each-once, subtree, subtree-of-parts}
 use Rattle.newick_rules.specs.Operations.{Strains}
-use Rattle.newick_rules.proofs.Strains.{all-at, times-append, found-at, same-place}
+use Rattle.newick_rules.proofs.Strains.{times-append, found-at, same-place}
 
 module _ (n : ℕ) (names : List (List ℕ)) (s : Strains n names) where
   abbrev known : List ℕ → Bool

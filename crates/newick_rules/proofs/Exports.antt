@@ -11,6 +11,7 @@ use lib.ListN.{getD}
 use Rattle.base.specs.Lists.{any-in, all-in}
 use Rattle.base.proofs.Bools.{and-is}
 use Rattle.base.proofs.Lists.{every-append}
+use Rattle.base.proofs.Searches.{all-places}
 use Rattle.limits.specs.Limits.{IsLeafCount}
 use Rattle.refusals.specs.Refusals.{accepted, refuse, judged, answered}
 use Rattle.trees.specs.Trees.{Tree, leaf, node, leaves, size, occurrences, IsTree, ordered}
@@ -30,7 +31,7 @@ use Rattle.newick_rules.specs.Importing.{strains-refusal, subtree, tree-
 use Rattle.newick_rules.specs.Operations.{Strains}
 use Rattle.newick_rules.proofs.ReaderLaws.{reads}
 use Rattle.newick_rules.proofs.Plain.{is-word, plain-right}
-use Rattle.newick_rules.proofs.Strains.{all-places, known-here, named-here, word-here}
+use Rattle.newick_rules.proofs.Strains.{known-here, named-here, word-here}
 use Rattle.newick_rules.proofs.DrawnTrees.{leaf-times}
 
 -- a tree in standard order is a tree, and with leaf 0 put on it has each leaf once

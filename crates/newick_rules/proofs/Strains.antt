@@ -1,9 +1,9 @@
 -- Names of strains: each is found at its own place, and nowhere else.
 use mathlib.Core.Path.{_≡_, refl, sym, _∙_}
 use mathlib.Core.Logic.{inl, inr}
-use mathlib.Core.Bool.{Bool, true, _&&_}
+use mathlib.Core.Bool.{true, _&&_}
 use mathlib.Core.List.{List, [], _∷_, _++_}
-use Prim.Native.Nat.{ℕ, zero, suc, _+_, _<_}
+use Prim.Native.Nat.{ℕ, _+_, _<_}
 use native.Mathlib.Omega.{arith}
 use native.Mathlib.Decide.{decLt}
 use borrow.Author.Tests.{eqb-true, eq-eqb}
@@ -17,20 +17,6 @@ use Rattle.sheet_rules.proofs.Names.{same-is, same-self}
 use Rattle.newick_rules.specs.Importing.{times-in}
 use Rattle.newick_rules.specs.Operations.{Strains}
 use Rattle.newick_rules.proofs.Plain.{is-word}
-
--- every member passes a test exactly when the member at each place does
-module _ {A : Type 0} (f : A → Bool) (d : A) where
-  pub all-places : (l : List A) → ((i : ℕ) → i < length l → f (getD l i d) ≡ true) → all-in f l ≡ true
-  unfolding all-in
-  all-places [] h = refl
-  all-places (x ∷ l) h =
-      and-is (f x) (all-in f l) (h 0 (omega arith)) (all-places l (λ i q. h (suc i) (omega arith)))
-
-  pub all-at : (l : List A) → all-in f l ≡ true → (i : ℕ) → i < length l → f (getD l i d) ≡ true
-  unfolding all-in
-  all-at [] h i q = absurd (omega arith)
-  all-at (x ∷ l) h zero q = and-both (f x) (all-in f l) h .0
-  all-at (x ∷ l) h (suc i) q = all-at l (and-both (f x) (all-in f l) h .1) i (omega arith)
 
 pub times-append :
     (l m : List (List ℕ)) (x : List ℕ) → times-in (l ++ m) x ≡ times-in l x + times-in m x

@@ -8,16 +8,16 @@ use native.Mathlib.Omega.{arith}
 use native.Mathlib.Decide.{decLt}
 use Rattle.base.specs.Numbers.{count-below, sum-below, pair-sum, distance}
 use Rattle.base.specs.Lists.{any-in}
-use Rattle.base.proofs.Sums.{zero-pair-sum, pair-sum-zero, pair-sum-le}
+use Rattle.base.proofs.Sums.{pair-sum-ext, zero-pair-sum, pair-sum-zero, pair-sum-le}
 use Rattle.base.proofs.Sums.{distance-same, distance-zero, distance-most}
 use Rattle.limits.specs.Limits.{IsLeafCount, largest-cell}
 use Rattle.pair_counts.specs.Pairs.{pairs-below}
-use Rattle.trees.specs.Trees.{Tree, leaf, node, leaves}
+use Rattle.trees.specs.Trees.{Tree, leaf, node, leaves, ordered}
 use Rattle.trees.specs.Edges.{edges}
 use Rattle.trees.specs.Quartets.{separates, paired, other, quartets}
 use Rattle.trees.specs.Tables.{cell, HasTable, IsTable}
 use Rattle.trees.specs.Gaps.{gap-size, total-gap}
-use Rattle.trees.proofs.Quartets.{quartets-ij, cell-limit}
+use Rattle.trees.proofs.Quartets.{quartets-ij, ordered-quartets, cell-limit}
 use Rattle.trees.proofs.Tables.{halves-equal, HasCells, to-cells, of-cells}
 
 -- three leaves have no quartet: each cell above the diagonal is a gap
@@ -48,6 +48,11 @@ module _ (n s : ℕ) (t : List ℕ) (T : Tree) where
         | yes l ↦ above h i j l lj
         | no g ↦ rw (halves-equal is i j li lj, quartets-ij n T i j) (above h j i (omega arith) li)
       ]
+
+  -- standard order changes no gap
+  pub ordered-gap : total-gap n s t (ordered T) ≡ total-gap n s t T
+  unfolding total-gap gap-size
+  ordered-gap = pair-sum-ext n _ _ (λ i j l m. rw (ordered-quartets n T i j))
 
   -- no total is too large for 64 bits, whatever the limit on the leaves
   pub gap-fits :
