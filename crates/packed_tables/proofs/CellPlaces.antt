@@ -1,16 +1,18 @@
--- Where cell (i, j) stands among those above the diagonal, by a product, and that this is below P(n); that the products
--- are small; and the two bytes of a cell.
+-- Where cell (i, j) stands among those above the diagonal, by a product; that this is below P(n), and no other cell's
+-- place; that the products are small; and the two bytes of a cell.
 use mathlib.Core.Path.{_≡_}
+use mathlib.Core.Logic.{_≢_}
 use mathlib.Core.List.{List}
 use Prim.Native.Nat.{ℕ, zero, suc, _+_, _-_, _*_, _/_, _≤_, _<_}
 use native.Mathlib.Nat.{mul-le-mul, mul-le-mul-left}
 use native.Mathlib.Omega.{arith}
+use native.Mathlib.Decide.{decLt}
 use lib.ListN.{getD, take, drop}
 use Rattle.base.specs.Numbers.{sum-below}
 use Rattle.base.proofs.Lists.{getD-tab}
 use Rattle.limits.specs.Limits.{most-leaves}
 use Rattle.pair_counts.specs.Pairs.{P}
-use Rattle.pair_counts.proofs.Pairs.{P-suc}
+use Rattle.pair_counts.proofs.Pairs.{P-suc, P-double, P-mono}
 use Rattle.byte_numbers.specs.Bytes.{number}
 use Rattle.packed_tables.specs.Packed.{cells-before, packed-cells}
 
@@ -42,6 +44,31 @@ module _ (n i j : ℕ) (h : i < j) (l : j < n) where
   place-below =
       let e : n - i ≡ suc (n - suc i) = omega arith in
       omega (arith, rw (e, P-suc (n - suc i)) at (rows-rest n i (omega arith)))
+
+  -- its two bytes are among those of the table
+  pub cell-inside : 2 * cells-before n i j + 2 ≤ n * (n - 1)
+  cell-inside = omega (arith, P-double n, place-below)
+
+  -- it stands before those of every later row
+  place-before : (x y : ℕ) → i < x → x < n → cells-before n i j < cells-before n x y
+  unfolding cells-before sum-below
+  place-before x y b m =
+      let fewer = P-mono (n - x) (n - suc i) (omega arith) in
+      omega (arith, fewer, rows-rest n (suc i) (omega arith), rows-rest n x (omega arith))
+
+-- different cells have different places
+pub places-differ :
+    (n i j x y : ℕ) → i < j → j < n → x < y → y < n → (x ≡ i → y ≡ j → ⊥) → cells-before n x y ≢ cells-before n i j
+unfolding cells-before
+places-differ n i j x y h l k m d e = elim (decLt i x) [
+  | yes b ↦ omega (arith, place-before n i j h l x y b (omega arith))
+  | no g ↦ elim (decLt x i) [
+    | yes b ↦ omega (arith, place-before n x y k m i j b (omega arith))
+    | no f ↦
+        let s : x ≡ i = omega arith in
+        d s (omega (arith, rw s at e))
+  ]
+]
 
 -- its products, for a leaf count of at most 128
 module _ (n i : ℕ) (few : n ≤ most-leaves) (h : i < n) where

@@ -1,3 +1,3 @@
-mod CellPlaces
+pub mod CellPlaces
 pub mod PackedIsTable
 pub mod Sizes

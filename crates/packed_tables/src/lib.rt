@@ -2,7 +2,7 @@
 ghost use mathlib.Core.Path.{_≡_};
 ghost use Rattle.packed_tables.specs.Operations.{is-packed, packed-cell, with-packed-row};
 
-mod reading;
+pub mod reading;
 
 // Whether bytes are a packed table of n leaves.
 pub fn is_packed(n: usize, packed: &[u8]) -> bool

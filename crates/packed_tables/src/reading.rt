@@ -7,8 +7,8 @@ ghost use Rattle.base.specs.Lists.{filled};
 ghost use Rattle.limits.specs.Limits.{most-leaves};
 ghost use Rattle.packed_tables.specs.Packed.{cells-before, mirrored, packed-cells, Packed};
 
-// How many cells above the diagonal stand before cell (i, j), i < j.
-fn cells_before(n: usize, i: usize, j: usize) -> usize
+// How many cells above the diagonal stand before cell (i, j), i < j. For the crates above, too.
+pub fn cells_before(n: usize, i: usize, j: usize) -> usize
     requires { ⌜ (n ≤ most-leaves) × (i < j) × (j < n) ⌝ }
     ensures { λ r. ⌜ r ≡ cells-before n i j ⌝ }
 {

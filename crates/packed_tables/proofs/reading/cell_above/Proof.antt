@@ -5,8 +5,7 @@ use native.Mathlib.Omega.{arith}
 use borrow.Author.Needs.{needs}
 use lib.ListN.{length}
 use Rattle.pair_counts.specs.Pairs.{P}
-use Rattle.pair_counts.proofs.Pairs.{P-double}
-use Rattle.packed_tables.proofs.CellPlaces.{place-below, cell-in-bytes}
+use Rattle.packed_tables.proofs.CellPlaces.{place-below, cell-inside, cell-in-bytes}
 use Rattle.packed_tables.proofs.reading.cell_above.Statement.{statement}
 use Rattle.packed_tables.proofs.reading.cell_above.Tie as tie
 
@@ -19,7 +18,9 @@ below c =
 ends :
     (c : tie.After-cells-before)
     → (let a = c .before .before .args in 2 * c .cells-before .result + 2 ≤ length (a .packed .now))
-ends c = omega (arith, P-double (c .before .before .args .n), below c)
+ends c =
+    let s = c .before .before in
+    rw (c .cells-before .ensures, s .pre .0 .1) (cell-inside _ _ _ (s .pre .1) (s .pre .2))
 
 mul-pair-at : tie.Need-mul-pair-at
 mul-pair-at c = omega (arith, ends c)

@@ -1,0 +1,97 @@
+// The total gap between a table and a tree, row by row: the gaps before the diagonal are as large as those above it,
+// since both tables have equal halves.
+use leaf_orders::leaf_order;
+use least_depths::count_at;
+use least_depths::find_row;
+use limits::Kind;
+use limits::MOST_LEAVES;
+use limits::MOST_NODES;
+ghost use mathlib.Core.Path.{_≡_};
+ghost use Prim.Native.Nat.{_^_, _≤_, _<_};
+ghost use lib.ListN.{length};
+ghost use Rattle.base.specs.Numbers.{distance};
+ghost use Rattle.limits.specs.Limits.{most-scale, scale-of, IsLeafCount};
+ghost use Rattle.trees.specs.Listings.{KeepsRules, tree-of};
+ghost use Rattle.trees.specs.Tables.{IsTable};
+ghost use Rattle.trees.specs.Gaps.{total-gap};
+ghost use Rattle.least_depths.specs.inner.Rows.{TableRowFits};
+ghost use Rattle.total_gaps.specs.inner.Sizes.{SizesAdded};
+
+// The size of a gap: how far a cell is from the number that is due there.
+fn size(cell: u32, due: u32) -> u64
+    ensures { λ r. ⌜ (r ≡ distance cell due) × (r < 2 ^ 32) ⌝ }
+{
+    if cell < due {
+        return (due - cell) as u64;
+    }
+    (cell - due) as u64
+}
+
+// The sizes of the gaps of row i before the diagonal, added up.
+fn add_row(
+    n: usize,
+    i: usize,
+    scale: u32,
+    base: u32,
+    aboves: &[u32; MOST_NODES],
+    tops: &[u32; MOST_LEAVES],
+    cells: &[u32],
+) -> u64
+    requires { ⌜ TableRowFits n i base (now aboves) (now tops) (length (now cells)) × (scale ≤ most-scale) ⌝ }
+    ensures { λ r. ⌜ SizesAdded n i scale base (now (aboves .entry)) (now (tops .entry)) (now (cells .entry)) i r ⌝ }
+{
+    let mut sum: u64 = 0;
+    let mut j: usize = 0;
+    while j < i {
+        sum += size(cells[i * n + j], scale * count_at(base, aboves, tops, j));
+        j += 1;
+    }
+    sum
+}
+
+// The same; with counts the scale is known to be 1 here, and the loop has no product to take.
+fn add_row_by_scale(
+    n: usize,
+    i: usize,
+    scale: u32,
+    base: u32,
+    aboves: &[u32; MOST_NODES],
+    tops: &[u32; MOST_LEAVES],
+    cells: &[u32],
+) -> u64
+    requires { ⌜ TableRowFits n i base (now aboves) (now tops) (length (now cells)) × (scale ≤ most-scale) ⌝ }
+    ensures { λ r. ⌜ SizesAdded n i scale base (now (aboves .entry)) (now (tops .entry)) (now (cells .entry)) i r ⌝ }
+{
+    if scale == 1 {
+        return add_row(n, i, 1, base, aboves, tops, cells);
+    }
+    add_row(n, i, scale, base, aboves, tops, cells)
+}
+
+// The total gap between a table of this kind and the tree that a listing stands for: the sum over i < j of the gap's
+// size. For the crates above.
+pub fn total_gap(kind: Kind, n: usize, cells: &[u32], listing: &[u16]) -> u64
+    requires { ⌜ IsLeafCount n × IsTable n (now cells) × KeepsRules n (now listing) ⌝ }
+    ensures { λ r. ⌜ r ≡ total-gap n (scale-of kind) (now (cells .entry)) (tree-of n (now (listing .entry))) ⌝ }
+{
+    let scale = limits::scale_of(kind);
+    let mut places = [0usize; MOST_NODES];
+    let mut aboves = [0u32; MOST_NODES];
+    let mut order = [0usize; MOST_LEAVES];
+    let mut depths = [0u32; MOST_LEAVES];
+    let mut tops = [0u32; MOST_LEAVES];
+    leaf_order(
+        n,
+        listing,
+        &mut places,
+        &mut aboves,
+        &mut order,
+        &mut depths,
+    );
+    let mut total: u64 = 0;
+    for i in 0..n {
+        let base = find_row(n, &places, &aboves, &order, &depths, i, &mut tops);
+        total += add_row_by_scale(n, i, scale, base, &aboves, &tops, cells);
+    }
+    total
+}
