@@ -103,7 +103,7 @@ module _ (n s : ℕ) (c : ℕ → ℕ → ℕ) (S : State) where
       less-trans (mean n s c S x) (mean n s c S y) (mean n s c S z) (mean-pos x) (mean-pos y) (mean-pos z)
 
   -- a mean than which 0 is not less is 0
-  zero-most : (p q : Pair) → mean n s c S q .0 ≡ 0 → under q p ≡ false → mean n s c S p .0 ≡ 0
+  pub zero-most : (p q : Pair) → mean n s c S q .0 ≡ 0 → under q p ≡ false → mean n s c S p .0 ≡ 0
   unfolding less
   zero-most p q z h =
       let over = ltb-false (mean n s c S q .0 * mean n s c S p .1) (mean n s c S p .0 * mean n s c S q .1) h in
