@@ -1,32 +1,38 @@
 -- The guess merges until one subtree is left, whatever the table: n − 1 merges, each of the nearest pair at its turn.
--- So it leaves a tree on all leaves.
+-- So it leaves a tree on all leaves. What our own rebuild replies, by the answer of the rebuild.
 use mathlib.Core.Path.{_≡_, refl, ap, sym, _∙_}
 use mathlib.Core.List.{List, [], _∷_}
 use mathlib.Core.Option.{some}
 use Prim.Native.Nat.{ℕ, zero, suc, _+_, _-_, _≤_, _<_}
 use native.Mathlib.Omega.{arith}
+use native.Mathlib.Decide.{decLt}
 use lib.ListN.{length, getD, take}
+use Rattle.refusals.specs.declared.Refusal.{Refusal}
+use Rattle.refusals.specs.Refusals.{accepted, refused}
 use Rattle.trees.specs.Listings.{KeepsRules, tree-of, standard}
-use Rattle.trees.specs.Tables.{cell}
+use Rattle.trees.specs.Tables.{cell, IsTable}
 use Rattle.trees.specs.Gaps.{total-gap}
-use Rattle.trees.proofs.Gaps.{ordered-gap}
+use Rattle.trees.proofs.Tables.{halves-equal}
+use Rattle.trees.proofs.Gaps.{gap-zero, ordered-gap}
 use Rattle.merging.specs.Merging.{State, start, step}
 use Rattle.merging.specs.MergeLists.{Pair, run, after, subtrees, final-tree, final-listing}
-use Rattle.merging.specs.Guesses.{nearest, IsNearest, by-mean, guess}
+use Rattle.merging.specs.Rebuilds.{rebuilt}
+use Rattle.merging.specs.Guesses.{nearest, IsNearest, by-mean, guess, exact, guessed, replied}
+use Rattle.merging.specs.Meaning.{HasNoTree}
 use Rattle.merging.proofs.States.{WellFormed, Single, wf-start, wf-step}
 use Rattle.merging.proofs.MergeLists.{two-left, subtrees-start, subtrees-merge, Merges, merges-take, after-next}
 use Rattle.merging.proofs.MergeLists.{wf-after, full-single, final-keeps, final-standard, final-read}
 use Rattle.merging.proofs.Runs.{EqualHalves}
 use Rattle.merging.proofs.Means.{nearest-differ, nearest-some, nearest-is, nearest-same}
 
+-- each merge of a list is of the nearest pair at its turn
+abbrev pub EachNearest : ℕ → ℕ → (ℕ → ℕ → ℕ) → State → List Pair → Type 0
+EachNearest n s c S [] = Unit {0}
+EachNearest n s c S (p ∷ L) = IsNearest n s c S p × EachNearest n s c (step S (p .0) (p .1)) L
+
 module _ (n s : ℕ) (t : List ℕ) (halves : EqualHalves n (cell n t)) (z : 0 < n) where
   abbrev c : ℕ → ℕ → ℕ
   c = cell n t
-
-  -- each merge of a list is of the nearest pair at its turn
-  abbrev pub EachNearest : State → List Pair → Type 0
-  EachNearest S [] = Unit {0}
-  EachNearest S (p ∷ L) = IsNearest n s c S p × EachNearest (step S (p .0) (p .1)) L
 
   by-mean-some :
       (k : ℕ) (S : State) (p : Pair) → nearest n s t S ≡ some p
@@ -37,7 +43,7 @@ module _ (n s : ℕ) (t : List ℕ) (halves : EqualHalves n (cell n t)) (z : 0 <
   -- k + 1 subtrees give k merges
   by-mean-nearest :
       (k : ℕ) (S : State) → WellFormed n S → subtrees n S ≡ suc k
-      → (length (by-mean k n s t S) ≡ k) × EachNearest S (by-mean k n s t S)
+      → (length (by-mean k n s t S) ≡ k) × EachNearest n s c S (by-mean k n s t S)
   by-mean-nearest zero S w e = unfold by-mean in (refl, tt)
   by-mean-nearest (suc k) S w e =
       let two = two-left w z (omega arith) in
@@ -50,18 +56,18 @@ module _ (n s : ℕ) (t : List ℕ) (halves : EqualHalves n (cell n t)) (z : 0 <
       rw (by-mean-some k S p (taken .1)) (ap suc (rest .0), (near, rest .1))
 
   nearest-at :
-      (S : State) (L : List Pair) → EachNearest S L → (k : ℕ) → k < length L
+      (S : State) (L : List Pair) → EachNearest n s c S L → (k : ℕ) → k < length L
       → IsNearest n s c (run S (take k L)) (getD L k (0, 0))
   unfolding run
   nearest-at S [] h k l = absurd (omega arith)
   nearest-at S (p ∷ L) h zero l = h .0
   nearest-at S (p ∷ L) h (suc k) l = nearest-at (step S (p .0) (p .1)) L (h .1) k (omega arith)
 
-  nearest-merges : (S : State) (L : List Pair) → EachNearest S L → Merges n S L
+  nearest-merges : (S : State) (L : List Pair) → EachNearest n s c S L → Merges n S L
   nearest-merges S [] h = tt
   nearest-merges S (p ∷ L) h = (nearest-differ (h .0), nearest-merges (step S (p .0) (p .1)) L (h .1))
 
-  guess-ends : (length (guess n s t) ≡ n - 1) × EachNearest start (guess n s t)
+  guess-ends : (length (guess n s t) ≡ n - 1) × EachNearest n s c start (guess n s t)
   unfolding guess
   guess-ends = by-mean-nearest (n - 1) start (wf-start n) (omega (arith, subtrees-start n))
 
@@ -69,7 +75,7 @@ module _ (n s : ℕ) (t : List ℕ) (halves : EqualHalves n (cell n t)) (z : 0 <
   pub guess-many : length (guess n s t) ≡ n - 1
   guess-many = guess-ends .0
 
-  pub guess-nearest : EachNearest start (guess n s t)
+  pub guess-nearest : EachNearest n s c start (guess n s t)
   guess-nearest = guess-ends .1
 
   -- of different subtrees, so that what the first k of them leave is well formed
@@ -100,7 +106,7 @@ module _ (n s : ℕ) (t : List ℕ) (halves : EqualHalves n (cell n t)) (big : 3
   wf : WellFormed n (after (guess n s t))
   wf = wf-after (guess n s t) (guess-merges n s t halves z)
 
-  pub guess-single : Single n (after (guess n s t))
+  guess-single : Single n (after (guess n s t))
   guess-single = full-single z (guess n s t) (guess-many n s t halves z) (guess-merges n s t halves z)
 
   -- its listing keeps the rules and is standard
@@ -117,3 +123,25 @@ module _ (n s : ℕ) (t : List ℕ) (halves : EqualHalves n (cell n t)) (big : 3
   guess-total =
       sym (ordered-gap n s t (final-tree (guess n s t)))
       ∙ ap (total-gap n s t) (sym (final-read n big (guess n s t) wf guess-single))
+
+-- where no tree has the table, that is not 0
+pub guess-rough :
+    (n s : ℕ) (t : List ℕ) → IsTable n t → 3 ≤ n → HasNoTree n s t → 0 < (guessed n s t) .total
+unfolding guessed
+guess-rough n s t table big rough = elim (decLt 0 (total-gap n s t (final-tree (guess n s t)))) [
+  | yes l ↦ l
+  | no g ↦
+      let halves = halves-equal table in
+      let l = final-listing n (guess n s t) in
+      let none : total-gap n s t (tree-of n l) ≡ 0 = omega (arith, guess-total n s t halves big) in
+      absurd (rough l (guess-keeps n s t halves big) (gap-zero n s t (tree-of n l) table .0 none))
+]
+
+-- Our own rebuild replies the tree of the rebuild's answer, or the guess.
+pub replied-exact : (n s : ℕ) (t l : List ℕ) → rebuilt n s t ≡ accepted l → replied n s t ≡ exact l
+unfolding replied
+replied-exact n s t l e = rw (e, replied)
+
+pub replied-guessed : (n s : ℕ) (t : List ℕ) (r : Refusal) → rebuilt n s t ≡ refused r → replied n s t ≡ guessed n s t
+unfolding replied
+replied-guessed n s t r e = rw (e, replied)

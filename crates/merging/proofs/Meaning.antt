@@ -88,8 +88,8 @@ module _ (n : ℕ) (count : IsLeafCount n) (s : ℕ) (sp : 0 < s) (t : List ℕ)
 
   pub rebuilt-means : TableMeans n s t (rebuilt n s t)
   rebuilt-means = elim either [
-    | inl one ↦ rw (one .own-rebuild) (the-only-tree (only-left one))
-    | inr several ↦ rw (several .own-rebuild) (no-tree (several .none-has-the-table))
+    | inl one ↦ rw (one .from-c) (the-only-tree (only-left one))
+    | inr several ↦ rw (several .from-c) (no-tree (several .none-has-the-table))
   ]
 
   -- a table that a tree has gets that tree
@@ -106,14 +106,14 @@ module _ (n : ℕ) (count : IsLeafCount n) (s : ℕ) (sp : 0 < s) (t : List ℕ)
   accepted-any-order l e L f = elim either [
     | inl one ↦
         let r = one .every-other-list L f in
-        (r .0, r .1 ∙ accepted-same _ l (sym (one .own-rebuild) ∙ e))
-    | inr several ↦ absurd (accepted-not-refused l NoTree (sym e ∙ several .own-rebuild))
+        (r .0, r .1 ∙ accepted-same _ l (sym (one .from-c) ∙ e))
+    | inr several ↦ absurd (accepted-not-refused l NoTree (sym e ∙ several .from-c))
   ]
 
   pub refused-any-order :
       rebuilt n s t ≡ refused NoTree → (L : List Pair) → Finished n s t L → 1 < subtrees n (after L)
   refused-any-order e L f = elim either [
-    | inl one ↦ absurd (accepted-not-refused _ NoTree (sym (one .own-rebuild) ∙ e))
+    | inl one ↦ absurd (accepted-not-refused _ NoTree (sym (one .from-c) ∙ e))
     | inr several ↦ several .every-other-list L f
   ]
 

@@ -1,10 +1,10 @@
 -- The mean size of gap of two subtrees: it is 0 exactly when they are eligible, and neither their order nor the leaves
 -- that name them matter. The pair that a guess merges: there is one where two subtrees are left, it is nearest, and no
 -- other pair is.
-use mathlib.Core.Path.{_≡_, ap, _∙_}
+use mathlib.Core.Path.{_≡_, refl, ap, _∙_}
 use mathlib.Core.Logic.{_⊎_, inl, inr, _↔_}
 use mathlib.Core.Bool.{Bool, true, false, not, _&&_, _||_, and-comm}
-use mathlib.Core.List.{List}
+use mathlib.Core.List.{List, [], _∷_}
 use mathlib.Core.Option.{some}
 use Prim.Native.Nat.{ℕ, _*_, _<_}
 use native.Mathlib.Nat.{add-comm, mul-comm, mul-pos}
@@ -13,7 +13,7 @@ use native.Mathlib.Decide.{decLt}
 use borrow.Author.Tests.{ltb-true, ltb-false, eqb-true, lt-ltb, eq-eqb, not-true}
 use lib.Dec.{ltb, eqb}
 use Rattle.base.specs.Numbers.{indicator, sum-below, distance, less}
-use Rattle.base.specs.Lists.{in-rows, any-in}
+use Rattle.base.specs.Lists.{tab, in-rows, any-in, all-in, find}
 use Rattle.base.proofs.Bools.{never, is-false, and-both, and-is}
 use Rattle.base.proofs.Counts.{indicator-none, indicator-when}
 use Rattle.base.proofs.Sums.{zero-sum, sum-zero, sum-swap, sum2-ext, distance-same, distance-zero}
@@ -21,15 +21,34 @@ use Rattle.base.proofs.Lists.{every-imp}
 use Rattle.base.proofs.Fractions.{less-irr, less-trans, less-mid}
 use Rattle.base.proofs.RowOrder.{NotBehind, not-behind-same, every-in-rows, any-in-rows, First, found-first}
 use Rattle.base.proofs.Least.{least-found}
-use Rattle.trees.specs.Trees.{Tree, leaves, size, least}
+use Rattle.pair_counts.specs.Pairs.{P}
+use Rattle.trees.specs.Trees.{Tree, leaves, size, least, join, ordered}
+use Rattle.trees.specs.Rerooting.{reroot-along, rerooted}
+use Rattle.trees.specs.Listings.{number-in, post-order, standard}
 use Rattle.trees.specs.Tables.{cell}
 use Rattle.trees.proofs.Trees.{size-pos, least-in, least-differ}
-use Rattle.merging.specs.Merging.{State, expected, eligible, step}
-use Rattle.merging.specs.MergeLists.{Pair}
-use Rattle.merging.specs.Guesses.{gap-sum, mean, two-subtrees, smallest, nearest, IsNearest}
+use Rattle.merging.specs.Merging.{State, start, expected, eligible, merge, step}
+use Rattle.merging.specs.MergeLists.{Pair, run, after, final-tree, final-listing}
+use Rattle.merging.specs.Guesses.{gap-sum, mean, two-subtrees, smallest, nearest, IsNearest, by-mean, guess}
 use Rattle.merging.specs.inner.Runs.{Differ, Eligible}
 use Rattle.merging.proofs.States.{WellFormed, step-m-out, apart, clear-out}
 use Rattle.merging.proofs.Runs.{eligible-sound, eligible-complete, EqualHalves}
+
+-- five leaves whose guess is another tree by sums for means, by means in whole numbers, by one cell of each two
+-- subtrees, and by other ties
+guess-example :
+    final-listing 5 (guess 5 1 (
+    0 ∷ 1 ∷ 0 ∷ 2 ∷ 0
+    ∷ 1 ∷ 0 ∷ 4 ∷ 4 ∷ 0
+    ∷ 0 ∷ 4 ∷ 0 ∷ 0 ∷ 0
+    ∷ 2 ∷ 4 ∷ 0 ∷ 0 ∷ 0
+    ∷ 0 ∷ 0 ∷ 0 ∷ 0 ∷ 0
+    ∷ []))
+    ≡ 1 ∷ 4 ∷ 5 ∷ 2 ∷ 6 ∷ 3 ∷ []
+unfolding guess by-mean nearest smallest two-subtrees mean gap-sum less distance sum-below expected P in-rows tab
+    all-in find cell start step merge leaves size least join ordered rerooted reroot-along run after final-tree
+    final-listing standard post-order number-in
+guess-example = refl
 
 module _ (n s : ℕ) (c : ℕ → ℕ → ℕ) (S : State) where
   -- what cell (x, y) adds to the sum of A and B
@@ -103,7 +122,7 @@ module _ (n s : ℕ) (c : ℕ → ℕ → ℕ) (S : State) where
       less-trans (mean n s c S x) (mean n s c S y) (mean n s c S z) (mean-pos x) (mean-pos y) (mean-pos z)
 
   -- a mean than which 0 is not less is 0
-  zero-most : (p q : Pair) → mean n s c S q .0 ≡ 0 → under q p ≡ false → mean n s c S p .0 ≡ 0
+  pub zero-most : (p q : Pair) → mean n s c S q .0 ≡ 0 → under q p ≡ false → mean n s c S p .0 ≡ 0
   unfolding less
   zero-most p q z h =
       let over = ltb-false (mean n s c S q .0 * mean n s c S p .1) (mean n s c S p .0 * mean n s c S q .1) h in

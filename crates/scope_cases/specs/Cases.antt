@@ -1,5 +1,7 @@
 -- The cases P1 to P12 (01, "Tables and listings to try"), rows of one list: the case, the call with what is lent to it,
--- and the answer due. Then some of them again with a poll's table, and polls of four leaves (02, 2).
+-- and the result due. "P2, P5 and P6 hold for the C call only" (02, 4), so each of these has a row for what our own
+-- rebuild replies elsewhere; more guesses follow. Then some cases again with a poll's table, and polls of four leaves
+-- (02, 2).
 use mathlib.Core.Bool.{cond, _&&_, _||_}
 use mathlib.Core.List.{List, [], _∷_}
 use Prim.Native.Nat.{ℕ, _*_, _/_, _%_}
@@ -7,11 +9,15 @@ use lib.Dec.{eqb}
 use Rattle.base.specs.Lists.{tab}
 use Rattle.limits.specs.declared.Kind.{Kind}
 use Rattle.limits.specs.declared.Kind.the-variants.{Counts, Poll}
+use Rattle.limits.specs.Limits.{scale-of}
+use Rattle.refusals.specs.declared.Refusal.{Refusal}
 use Rattle.refusals.specs.declared.Refusal.the-variants.{LeafCount, NoTree, Child, NamedBefore, PairingCode, Proposal}
 use Rattle.refusals.specs.Refusals.{Answer, accepted, refused}
+use Rattle.tree_records.specs.declared.Origin.the-variants.{Guessed}
 use Rattle.trees.specs.Tables.{times}
 use Rattle.standard_listings.specs.Operations.{standardise-answer}
 use Rattle.merging.specs.MergeLists.{Pair}
+use Rattle.merging.specs.Guesses.{Reply, exact, replied}
 use Rattle.rebuild_answers.specs.Operations.{rebuild-answer, guided-answer}
 use Rattle.poll_rules.specs.Operations.{poll-answer}
 
@@ -30,26 +36,50 @@ named r (x ∷ l) i j =
 unfoldable pub table : ℕ → ℕ → Cells → List ℕ
 table n r l = tab (n * n) (λ k. named r l (k / n) (k % n))
 
--- a call: the kind of table, the leaf count, what is lent, and the room for the result
+-- a call: the kind of table, the leaf count, what is lent, and the room for the result; our own rebuild is told apart
+-- from its call from C, and is here of a table that passes the checks
 pub data Call : Type 0 where
-  rebuild : (kind : Kind) (n : ℕ) (t : List ℕ) (room : ℕ) → Call
+  rebuild-from-c : (kind : Kind) (n : ℕ) (t : List ℕ) (room : ℕ) → Call
+  rebuild : (kind : Kind) (n : ℕ) (t : List ℕ) → Call
   rebuild-guided : (kind : Kind) (n : ℕ) (t p : List ℕ) (room : ℕ) → Call
   standardise : (n : ℕ) (l : List ℕ) (room : ℕ) → Call
 
--- the operation's answer
-unfoldable pub answer-to : Call → Answer (List ℕ)
-answer-to (rebuild kind n t room) = rebuild-answer kind n t room
-answer-to (rebuild-guided kind n t p room) = guided-answer kind n t p room
-answer-to (standardise n l room) = standardise-answer n l room
+-- what a call gives: an answer, or a reply of our own rebuild
+pub data Result : Type 0 where
+  answers : Answer (List ℕ) → Result
+  replies : Reply → Result
 
+unfoldable pub result-of : Call → Result
+result-of (rebuild-from-c kind n t room) = answers (rebuild-answer kind n t room)
+result-of (rebuild kind n t) = replies (replied n (scale-of kind) t)
+result-of (rebuild-guided kind n t p room) = answers (guided-answer kind n t p room)
+result-of (standardise n l room) = answers (standardise-answer n l room)
+
+-- the results due: a listing, a refusal, a tree that has the table, a guess with its total gap
+abbrev pub listing : List ℕ → Result
+listing l = answers (accepted l)
+
+abbrev pub refusal : Refusal → Result
+refusal r = answers (refused r)
+
+abbrev pub tree : List ℕ → Result
+tree l = replies (exact l)
+
+abbrev pub guess : List ℕ → ℕ → Result
+guess l total = replies (record { listing = l; origin = Guessed; total = total })
+
+-- a row of case Pk, and one of no number
 pub data Case : Type 0 where
-  row : ℕ → Call → Answer (List ℕ) → Case
+  row : ℕ → Call → Result → Case
+  also : Call → Result → Case
 
 abbrev pub called : Case → Call
-called (row k c a) = c
+called (row k c r) = c
+called (also c r) = c
 
-abbrev pub due : Case → Answer (List ℕ)
-due (row k c a) = a
+abbrev pub due : Case → Result
+due (row k c r) = r
+due (also c r) = r
 
 -- the sheet's cells
 unfoldable pub P7 : List ℕ
@@ -65,32 +95,52 @@ P12 = 3 ∷ 4 ∷ 0 ∷ 1 ∷ 2 ∷ 3 ∷ 0 ∷ 2 ∷ []
 unfoldable pub P12-from-0-2 : (p q r : Pair) → List ℕ
 P12-from-0-2 p q r = 0 ∷ 2 ∷ p .0 ∷ p .1 ∷ q .0 ∷ q .1 ∷ r .0 ∷ r .1 ∷ []
 
+-- three strains with any cells; a tie of two means; all cells 0; and four tables of five strains whose guess another
+-- rule would miss: one that compares sums and not means, one that divides in whole numbers, one that looks at one cell
+-- of two subtrees, and one that breaks ties by the other least leaf first
+unfoldable pub guesses : List Case
+guesses =
+    also (rebuild Counts 3 (table 3 0 ((0, 1, 1) ∷ (0, 2, 2) ∷ (1, 2, 3) ∷ []))) (guess (1 ∷ 2 ∷ []) 6)
+    ∷ also (rebuild Counts 4 (table 4 0 ((0, 2, 1) ∷ (1, 2, 1) ∷ []))) (guess (1 ∷ 3 ∷ 4 ∷ 2 ∷ []) 2)
+    ∷ also (rebuild Counts 5 (table 5 0 [])) (guess (3 ∷ 4 ∷ 2 ∷ 5 ∷ 1 ∷ 6 ∷ []) 10)
+    ∷ also (rebuild Counts 5 (table 5 0 ((0, 1, 1) ∷ (2, 4, 3) ∷ []))) (guess (1 ∷ 3 ∷ 2 ∷ 4 ∷ 5 ∷ 6 ∷ []) 6)
+    ∷ also (rebuild Counts 5 (table 5 0 ((0, 4, 3) ∷ (1, 4, 3) ∷ []))) (guess (1 ∷ 3 ∷ 5 ∷ 2 ∷ 6 ∷ 4 ∷ []) 10)
+    ∷ also (rebuild Counts 5 (table 5 0 ((1, 4, 1) ∷ (2, 4, 1) ∷ []))) (guess (1 ∷ 4 ∷ 5 ∷ 2 ∷ 6 ∷ 3 ∷ []) 8)
+    ∷ also (rebuild Counts 5 (table 5 0 ((0, 3, 1) ∷ (1, 2, 1) ∷ []))) (guess (2 ∷ 4 ∷ 1 ∷ 5 ∷ 6 ∷ 3 ∷ []) 8)
+    ∷ []
+
 unfoldable pub cases : (p q r : Pair) → List Case
 cases p q r =
-    row 1 (rebuild Counts 3 (table 3 0 []) 2) (accepted (1 ∷ 2 ∷ []))
-    ∷ row 2 (rebuild Counts 3 (table 3 0 ((0, 1, 1) ∷ [])) 2) (refused NoTree)
-    ∷ row 3 (rebuild Counts 4 (table 4 0 ((0, 1, 1) ∷ (2, 3, 1) ∷ [])) 4) (accepted (2 ∷ 3 ∷ 1 ∷ 4 ∷ []))
-    ∷ row 4 (rebuild Counts 4 (table 4 0 ((0, 2, 1) ∷ (1, 3, 1) ∷ [])) 4) (accepted (1 ∷ 3 ∷ 4 ∷ 2 ∷ []))
-    ∷ row 5 (rebuild Counts 4 (table 4 0 []) 4) (refused NoTree)
-    ∷ row 6 (rebuild Counts 4 (table 4 0 ((0, 1, 1) ∷ [])) 4) (refused NoTree)
-    ∷ row 7 (rebuild Counts 5 P7 6) (accepted (3 ∷ 4 ∷ 2 ∷ 5 ∷ 1 ∷ 6 ∷ []))
-    ∷ row 8 (rebuild Counts 6 P8 8) (accepted (2 ∷ 3 ∷ 4 ∷ 5 ∷ 6 ∷ 7 ∷ 1 ∷ 8 ∷ []))
-    ∷ row 9 (standardise 4 (2 ∷ 3 ∷ 4 ∷ 1 ∷ []) 4) (accepted (2 ∷ 3 ∷ 1 ∷ 4 ∷ []))
-    ∷ row 10 (standardise 4 (2 ∷ 2 ∷ 1 ∷ 4 ∷ []) 4) (refused (NamedBefore 1))
-    ∷ row 11 (standardise 4 (2 ∷ 4 ∷ 1 ∷ 3 ∷ []) 4) (refused (Child 1))
-    ∷ row 12 (rebuild-guided Counts 5 P7 P12 6) (accepted (3 ∷ 4 ∷ 2 ∷ 5 ∷ 1 ∷ 6 ∷ []))
-    ∷ row 12 (rebuild-guided Counts 5 P7 (P12-from-0-2 p q r) 6) (refused (Proposal 0))
-    ∷ []
+    row 1 (rebuild-from-c Counts 3 (table 3 0 []) 2) (listing (1 ∷ 2 ∷ []))
+    ∷ row 2 (rebuild-from-c Counts 3 (table 3 0 ((0, 1, 1) ∷ [])) 2) (refusal NoTree)
+    ∷ row 2 (rebuild Counts 3 (table 3 0 ((0, 1, 1) ∷ []))) (guess (1 ∷ 2 ∷ []) 1)
+    ∷ row 3 (rebuild-from-c Counts 4 (table 4 0 ((0, 1, 1) ∷ (2, 3, 1) ∷ [])) 4) (listing (2 ∷ 3 ∷ 1 ∷ 4 ∷ []))
+    ∷ row 4 (rebuild-from-c Counts 4 (table 4 0 ((0, 2, 1) ∷ (1, 3, 1) ∷ [])) 4) (listing (1 ∷ 3 ∷ 4 ∷ 2 ∷ []))
+    ∷ row 5 (rebuild-from-c Counts 4 (table 4 0 []) 4) (refusal NoTree)
+    ∷ row 5 (rebuild Counts 4 (table 4 0 [])) (guess (2 ∷ 3 ∷ 1 ∷ 4 ∷ []) 2)
+    ∷ row 6 (rebuild-from-c Counts 4 (table 4 0 ((0, 1, 1) ∷ [])) 4) (refusal NoTree)
+    ∷ row 6 (rebuild Counts 4 (table 4 0 ((0, 1, 1) ∷ []))) (guess (2 ∷ 3 ∷ 1 ∷ 4 ∷ []) 1)
+    ∷ row 7 (rebuild-from-c Counts 5 P7 6) (listing (3 ∷ 4 ∷ 2 ∷ 5 ∷ 1 ∷ 6 ∷ []))
+    ∷ row 7 (rebuild Counts 5 P7) (tree (3 ∷ 4 ∷ 2 ∷ 5 ∷ 1 ∷ 6 ∷ []))
+    ∷ row 8 (rebuild-from-c Counts 6 P8 8) (listing (2 ∷ 3 ∷ 4 ∷ 5 ∷ 6 ∷ 7 ∷ 1 ∷ 8 ∷ []))
+    ∷ row 9 (standardise 4 (2 ∷ 3 ∷ 4 ∷ 1 ∷ []) 4) (listing (2 ∷ 3 ∷ 1 ∷ 4 ∷ []))
+    ∷ row 10 (standardise 4 (2 ∷ 2 ∷ 1 ∷ 4 ∷ []) 4) (refusal (NamedBefore 1))
+    ∷ row 11 (standardise 4 (2 ∷ 4 ∷ 1 ∷ 3 ∷ []) 4) (refusal (Child 1))
+    ∷ row 12 (rebuild-guided Counts 5 P7 P12 6) (listing (3 ∷ 4 ∷ 2 ∷ 5 ∷ 1 ∷ 6 ∷ []))
+    ∷ row 12 (rebuild-guided Counts 5 P7 (P12-from-0-2 p q r) 6) (refusal (Proposal 0))
+    ∷ guesses
 
 -- P1, P7 and P12 with the table said to be a poll's: three leaves are too few, and a tree has six times its table
 unfoldable pub poll-cases : List Case
 poll-cases =
-    row 1 (rebuild Poll 3 (table 3 0 []) 2) (refused LeafCount)
-    ∷ row 7 (rebuild Poll 5 (times 6 P7) 6) (accepted (3 ∷ 4 ∷ 2 ∷ 5 ∷ 1 ∷ 6 ∷ []))
-    ∷ row 7 (rebuild Poll 5 P7 6) (refused NoTree)
-    ∷ row 7 (rebuild Counts 5 (times 6 P7) 6) (refused NoTree)
-    ∷ row 12 (rebuild-guided Poll 5 (times 6 P7) P12 6) (accepted (3 ∷ 4 ∷ 2 ∷ 5 ∷ 1 ∷ 6 ∷ []))
-    ∷ row 12 (rebuild-guided Poll 5 P7 P12 6) (refused (Proposal 0))
+    row 1 (rebuild-from-c Poll 3 (table 3 0 []) 2) (refusal LeafCount)
+    ∷ row 7 (rebuild-from-c Poll 5 (times 6 P7) 6) (listing (3 ∷ 4 ∷ 2 ∷ 5 ∷ 1 ∷ 6 ∷ []))
+    ∷ row 7 (rebuild Poll 5 (times 6 P7)) (tree (3 ∷ 4 ∷ 2 ∷ 5 ∷ 1 ∷ 6 ∷ []))
+    ∷ row 7 (rebuild-from-c Poll 5 P7 6) (refusal NoTree)
+    ∷ row 7 (rebuild Poll 5 P7) (guess (3 ∷ 4 ∷ 2 ∷ 5 ∷ 1 ∷ 6 ∷ []) 50)
+    ∷ row 7 (rebuild-from-c Counts 5 (times 6 P7) 6) (refusal NoTree)
+    ∷ row 12 (rebuild-guided Poll 5 (times 6 P7) P12 6) (listing (3 ∷ 4 ∷ 2 ∷ 5 ∷ 1 ∷ 6 ∷ []))
+    ∷ row 12 (rebuild-guided Poll 5 P7 P12 6) (refusal (Proposal 0))
     ∷ []
 
 -- a poll of four leaves: one record, with this code

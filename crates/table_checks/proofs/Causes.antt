@@ -1,13 +1,13 @@
 -- Which refusals may arise from a table: 1, 2, 3, then 4 and 5, whose leaves are below the leaf count.
-use mathlib.Core.Path.{_≡_, refl, sym, _∙_}
+use mathlib.Core.Path.{_≡_, refl}
 use mathlib.Core.List.{List}
 use mathlib.Core.Option.{Option, none, some}
-use Prim.Native.Nat.{ℕ, _*_, _/_, _%_, _<_}
-use native.Mathlib.Nat.{div-lt-iff-lt-mul, mod-lt}
+use Prim.Native.Nat.{ℕ, _*_, _<_}
 use native.Mathlib.Omega.{arith}
 use lib.ListN.{length}
-use Rattle.base.specs.Lists.{tab, in-rows}
+use Rattle.base.specs.Lists.{tab}
 use Rattle.base.proofs.Lists.{length-tab, getD-tab, find-place}
+use Rattle.base.proofs.RowOrder.{found-first}
 use Rattle.limits.specs.declared.Kind.{Kind}
 use Rattle.limits.specs.Limits.{IsLeafCount}
 use Rattle.limits.proofs.TableKinds.{leaf-count-of}
@@ -27,14 +27,9 @@ filled-below n t i h =
     let inside : r .0 < n = rw length-tab at (r .1) in
     rw (← r .2) (rw (getD-tab n (λ i. i) (r .0) 0 inside) inside)
 
-unequal-below : (n : ℕ) (t : List ℕ) (p : ℕ × ℕ) → 0 < n → first-unequal n t ≡ some p → (p .0 < n) × (p .1 < n)
-unfolding first-unequal in-rows
-unequal-below n t p z h =
-    let at : ℕ → ℕ × ℕ = λ k. (k / n, k % n) in
-    let r = find-place _ (tab (n * n) at) p (0, 0) h in
-    let inside : r .0 < n * n = rw length-tab at (r .1) in
-    let e : at (r .0) ≡ p = sym (getD-tab (n * n) at (r .0) (0, 0) inside) ∙ r .2 in
-    rw (← e) (div-lt-iff-lt-mul z .1 inside, mod-lt (r .0) z)
+unequal-below : (n : ℕ) (t : List ℕ) (p : ℕ × ℕ) → first-unequal n t ≡ some p → (p .0 < n) × (p .1 < n)
+unfolding first-unequal
+unequal-below n t p h = let r = found-first n _ p h in (r .left, r .right)
 
 -- What holds of each of these holds of the one that arises.
 pub record CellCauses (P : Refusal → Type 0) (n : ℕ) : Type 0 where
@@ -50,7 +45,7 @@ module _ (P : Refusal → Type 0) (n : ℕ) (t : List ℕ) (w : CellCauses P n) 
           → Arises P (cells-refusal n t)
       go (some i) e u f = unfold cells-refusal in rw (e, cells-refusal) (w .diagonal k i (filled-below n t i e))
       go none e (some p) f =
-          let low = unequal-below n t p (omega (arith, k)) f in
+          let low = unequal-below n t p f in
           unfold cells-refusal in rw (e, f, cells-refusal) (w .halves k (p .0) (p .1) (low .0) (low .1))
       go none e none f = unfold cells-refusal in rw (e, f, cells-refusal) tt
 
