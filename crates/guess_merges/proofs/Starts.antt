@@ -5,6 +5,7 @@ use mathlib.Core.Logic.{_≢_}
 use mathlib.Core.Bool.{Bool, true, false, _&&_}
 use mathlib.Core.List.{List}
 use Prim.Native.Nat.{ℕ, _+_, _-_, _*_, _≤_, _<_}
+use native.Mathlib.Nat.{mul-le-mul-left}
 use native.Mathlib.Omega.{arith}
 use borrow.Author.Tests.{ne-eqb}
 use lib.Dec.{eqb}
@@ -14,11 +15,15 @@ use Rattle.base.specs.Numbers.{indicator, sum-below, distance}
 use Rattle.base.specs.Lists.{filled}
 use Rattle.base.proofs.Bools.{eqb-same}
 use Rattle.base.proofs.Sums.{sum-only, zero-sum}
-use Rattle.limits.specs.Limits.{most-leaves}
+use Rattle.limits.specs.declared.Kind.{Kind}
+use Rattle.limits.specs.declared.Kind.the-variants.{Counts, Poll}
+use Rattle.limits.specs.Limits.{most-leaves, most-of, IsCountOf, scale-of, largest-cell-of}
+use Rattle.limits.proofs.TableKinds.{leaf-count-of}
 use Rattle.pair_counts.specs.Pairs.{P}
+use Rattle.pair_counts.proofs.Pairs.{P-mono, P-largest-of}
 use Rattle.refusals.specs.Refusals.{accepted}
 use Rattle.trees.specs.Trees.{leaf, leaves, size}
-use Rattle.trees.specs.Tables.{cell}
+use Rattle.trees.specs.Tables.{cell, IsTable}
 use Rattle.trees.proofs.Tables.{halves-equal}
 use Rattle.packed_tables.specs.Packed.{table-with, packed-cells, Packed}
 use Rattle.packed_tables.proofs.PackedIsTable.{both-ways, cell-is, sheet-is-table}
@@ -31,7 +36,8 @@ use Rattle.merging.proofs.States.{WellFormed, wf-start}
 use Rattle.merging.proofs.Soundness.{CellsWithin, within-start}
 use Rattle.merging.proofs.Guesses.{guess-many, guess-merges, guess-wf}
 use Rattle.merging.proofs.GuessLaws.{list-written}
-use Rattle.state_arrays.proofs.StateArrays.{holds-start, filled-own}
+use Rattle.state_arrays.specs.inner.Fits.{ScaledCounts, counts-scale}
+use Rattle.state_arrays.proofs.StateArrays.{counts-given, holds-start, filled-own}
 use Rattle.gap_sums.specs.inner.PairPlaces.{pair-place}
 use Rattle.gap_sums.specs.inner.GapSums.{largest-gap, most-gaps, SmallGaps, Started}
 use Rattle.nearest_pairs.specs.inner.Nearest.{TwoLabels, SearchFits, Partners}
@@ -135,3 +141,22 @@ guess-end {n} {s} {t} {own = own} g h = (
         let w = rw all at (guess-wf n s t halves z (n - 1)) in
         cell-is n (packed-cells n own) i j li (w .below i j li together)
         ∙ (rw all at (h .written)) i j li together d
+
+-- What a guess is given: the cells of a tree fit two bytes in a table of either kind.
+largest-fits : (kind : Kind) → largest-cell-of kind < 65536
+largest-fits Counts = omega arith
+largest-fits Poll = omega arith
+
+pub guess-given :
+    (kind : Kind) (n : ℕ) (t p : List ℕ) → IsCountOf kind n → IsTable n t → ScaledCounts n (scale-of kind) p
+    → (counts-scale p ≡ scale-of kind) × GuessGiven n (counts-scale p) t p
+guess-given kind n t p count is-table counts =
+    let r = counts-given kind n t p (leaf-count-of kind n count) is-table counts in
+    let few = P-mono (n - 2) (most-of kind - 2) (omega (arith, count)) in
+    let most = mul-le-mul-left (scale-of kind) few in (
+      r .0,
+      record {
+        given = r .1;
+        small-cells = rw (r .0) (omega (arith, most, P-largest-of kind, largest-fits kind));
+      },
+    )

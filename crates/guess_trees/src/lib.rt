@@ -43,6 +43,19 @@ fn write_tree_table(kind: Kind, n: usize, table: &[u32], own: &mut [u8])
     );
 }
 
+// The tree of the guess: its standard listing, at the front of `out`.
+fn write_listing(kind: Kind, n: usize, table: &[u32], out: &mut [u16])
+    requires { ⌜ IsCountOf kind n × IsTable n (now table) × (2 * (n - 2) ≤ length (now out)) ⌝ }
+    ensures { λ _. ⌜ now (out .exit)
+        ≡ written (accepted ((guessed n (scale-of kind) (now (table .entry))) .listing)) (now (out .entry)) ⌝ }
+{
+    let mut own: [u8; 2 * MOST_PAIRS] = [0; 2 * MOST_PAIRS];
+    let end = n * (n - 1);
+    write_tree_table(kind, n, table, &mut own[..end]);
+    let cells: [u32; 0] = [];
+    own_rebuild::rebuild_checked(kind, n, &cells, &own[..end], out);
+}
+
 // The guess for a table of this kind that has passed the checks: writes the standard listing of its tree at the front of
 // `out`. Its total gap.
 pub fn guess_tree(kind: Kind, n: usize, table: &[u32], out: &mut [u16]) -> u64
@@ -51,11 +64,7 @@ pub fn guess_tree(kind: Kind, n: usize, table: &[u32], out: &mut [u16]) -> u64
     ensures buffer { λ _. ⌜ now (out .exit)
         ≡ written (accepted ((guessed n (scale-of kind) (now (table .entry))) .listing)) (now (out .entry)) ⌝ }
 {
-    let mut own: [u8; 2 * MOST_PAIRS] = [0; 2 * MOST_PAIRS];
-    let end = n * (n - 1);
-    write_tree_table(kind, n, table, &mut own[..end]);
-    let cells: [u32; 0] = [];
-    own_rebuild::rebuild_checked(kind, n, &cells, &own[..end], out);
+    write_listing(kind, n, table, out);
     let numbers = 2 * (n - 2);
     total_gaps::total_gap(kind, n, table, &out[..numbers])
 }
