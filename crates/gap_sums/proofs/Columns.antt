@@ -2,7 +2,7 @@
 use mathlib.Core.Path.{_≡_, refl, sym, ap, _∙_}
 use mathlib.Core.Logic.{_≢_}
 use mathlib.Core.List.{List}
-use Prim.Native.Nat.{ℕ, _+_, _-_, _*_, _≤_, _<_}
+use Prim.Native.Nat.{ℕ, _+_, _-_, _*_, _^_, _≤_, _<_}
 use native.Mathlib.Nat.{mul-le-mul-right}
 use native.Mathlib.Numerals.{add-one}
 use native.Mathlib.Omega.{arith}
@@ -231,7 +231,7 @@ module _ {n a c : ℕ} {v : ℕ → ℕ} {sums sums₁ : List ℕ} (few : n ≤ 
 -- One sum more of the single leaf j.
 pub started-turn :
     {row sums sums₁ : List ℕ} {e j c v : ℕ} → j < most-leaves → length sums ≡ most-pairs → c < j
-    → RowStarted row e j c sums sums₁ → (v ≡ distance (getD row c 0) e) × (v ≤ largest-gap)
+    → RowStarted row e j c sums sums₁ → (v ≡ distance (getD row c 0) e) × (v < 2 ^ 32)
     → RowStarted row e j (c + 1) sums (set sums₁ (pair-place c j) v)
 started-turn {row} {sums} {sums₁} {e} {j} {c} {v} lj many lc h b = record {
   long = length-set sums₁ (pair-place c j) v ∙ h .long;
@@ -240,7 +240,7 @@ started-turn {row} {sums} {sums₁} {e} {j} {c} {v} lj many lc h b = record {
     | no d ↦ other i li d ∙ h .new i (omega arith)
   ];
   small = λ i li. elim (ℕ-discrete i c) [
-    | yes q ↦ rw (q, same) (b .1)
+    | yes q ↦ rw (q, same) (omega (arith, b .1))
     | no d ↦ rw (other i li d) (h .small i (omega arith))
   ];
   others = λ i k l m.

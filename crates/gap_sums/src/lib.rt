@@ -1,9 +1,10 @@
 // The sums of a guess: of two subtrees, the sizes of the gaps of their cells from the values expected, added up. They
-// are kept for each two subtrees; after a merge those of the newest subtree alone are worked anew. For the crates of the
-// guess.
+// are kept for each two subtrees; after a merge those of the newest subtree alone are worked anew. For the crates of
+// the guess.
 use limits::LEAF_COUNTS;
 use limits::MOST_LEAVES;
 use limits::MOST_PAIRS;
+use numbers::apart;
 use numbers::index_of_u32;
 ghost use mathlib.Core.Path.{_≡_};
 ghost use mathlib.Core.Logic.{_≢_};
@@ -22,16 +23,6 @@ ghost use Rattle.gap_sums.specs.inner.GapSums.{leaf-gaps, subtree-gaps, 
 ghost use Rattle.gap_sums.specs.inner.GapSums.{ColumnsFound, SmallGaps, SumsFit, Stored};
 ghost use Rattle.gap_sums.specs.inner.GapSums.{RowStarted, Started};
 
-// The size of the gap between a cell and the value expected.
-fn gap_size(cell: u32, expected: u32) -> u64
-    ensures { λ r. ⌜ (r ≡ distance cell expected) × (r ≤ largest-gap) ⌝ }
-{
-    if cell < expected {
-        return (expected - cell) as u64;
-    }
-    (cell - expected) as u64
-}
-
 // The gaps of a row are added to what is kept of each column: `due` is expected there, and the m of the row's leaf.
 fn add_row(
     n: usize,
@@ -48,7 +39,7 @@ fn add_row(
 {
     let mut y: usize = 0;
     while y < n {
-        columns[y] += gap_size(row[y], due[y] + m);
+        columns[y] += apart(row[y], due[y] + m);
         y += 1;
     }
 }
@@ -108,7 +99,7 @@ fn gap_of(label: u32, a: u32, cell: u32, expected: u32) -> u64
     if label != a {
         return 0;
     }
-    gap_size(cell, expected)
+    apart(cell, expected)
 }
 
 // The gaps of the leaves of the subtree `a` in a row, added up: `due` is expected there, and their m.
@@ -178,8 +169,8 @@ fn fill_outside(
     }
 }
 
-// The columns of the leaves outside of the subtree `a`, which has `size` leaves: by its rows or by theirs, whichever are
-// fewer.
+// The columns of the leaves outside of the subtree `a`, which has `size` leaves: by its rows or by theirs, whichever
+// are fewer.
 fn find_columns(
     n: usize,
     table: &[u32],
@@ -335,7 +326,7 @@ fn start_row(row: &[u32], e: u32, j: usize, sums: &mut [u64; MOST_PAIRS])
 {
     let mut i: usize = 0;
     while i < j {
-        sums[pair_place(i, j)] = gap_size(row[i], e);
+        sums[pair_place(i, j)] = apart(row[i], e);
         i += 1;
     }
 }

@@ -1,5 +1,5 @@
-// The guess for a table: its tree, written as the standard listing, and its total gap. The merges write the table of the
-// tree; our rebuild of that table writes the listing. For the crates above.
+// The guess for a table: its tree, written as the standard listing, and its total gap. The merges write the table of
+// the tree; our rebuild of that table writes the listing. For the crates above.
 use limits::Kind;
 use limits::MOST_LEAVES;
 use limits::MOST_PAIRS;
@@ -56,8 +56,8 @@ fn write_listing(kind: Kind, n: usize, table: &[u32], out: &mut [u16])
     own_rebuild::rebuild_checked(kind, n, &cells, &own[..end], out);
 }
 
-// The guess for a table of this kind that has passed the checks: writes the standard listing of its tree at the front of
-// `out`. Its total gap.
+// The guess for a table of this kind that has passed the checks: writes the standard listing of its tree at the front
+// of `out`. Its total gap.
 pub fn guess_tree(kind: Kind, n: usize, table: &[u32], out: &mut [u16]) -> u64
     requires { ⌜ IsCountOf kind n × IsTable n (now table) × (2 * (n - 2) ≤ length (now out)) ⌝ }
     ensures total { λ r. ⌜ r ≡ (guessed n (scale-of kind) (now (table .entry))) .total ⌝ }

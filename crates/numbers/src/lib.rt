@@ -1,7 +1,8 @@
-// Numbers as indices, and an array that holds its own indices.
+// Numbers as indices, how far two are apart, and an array that holds its own indices.
 ghost use mathlib.Core.Path.{_≡_};
-ghost use Prim.Native.Nat.{_<_, _≤_};
+ghost use Prim.Native.Nat.{_^_, _<_, _≤_};
 ghost use lib.ListN.{length};
+ghost use Rattle.base.specs.Numbers.{distance};
 ghost use Rattle.base.specs.Lists.{filled};
 ghost use Rattle.limits.specs.Limits.{most-leaves};
 
@@ -24,6 +25,16 @@ pub fn index_of_u32(x: u32) -> usize
     ensures { λ r. ⌜ r ≡ x ⌝ }
 {
     x as usize
+}
+
+// How far two numbers are apart.
+pub fn apart(x: u32, y: u32) -> u64
+    ensures { λ r. ⌜ (r ≡ distance x y) × (r < 2 ^ 32) ⌝ }
+{
+    if x < y {
+        return (y - x) as u64;
+    }
+    (x - y) as u64
 }
 
 // Each of n leaves gets its own number. For the crates above.

@@ -6,6 +6,7 @@ use least_depths::find_row;
 use limits::Kind;
 use limits::MOST_LEAVES;
 use limits::MOST_NODES;
+use numbers::apart;
 ghost use mathlib.Core.Path.{_≡_};
 ghost use Prim.Native.Nat.{_^_, _≤_, _<_};
 ghost use lib.ListN.{length};
@@ -16,16 +17,6 @@ ghost use Rattle.trees.specs.Tables.{IsTable};
 ghost use Rattle.trees.specs.Gaps.{total-gap};
 ghost use Rattle.least_depths.specs.inner.Rows.{TableRowFits};
 ghost use Rattle.total_gaps.specs.inner.Sizes.{SizesAdded};
-
-// The size of a gap: how far a cell is from the number that is due there.
-fn size(cell: u32, due: u32) -> u64
-    ensures { λ r. ⌜ (r ≡ distance cell due) × (r < 2 ^ 32) ⌝ }
-{
-    if cell < due {
-        return (due - cell) as u64;
-    }
-    (cell - due) as u64
-}
 
 // The sizes of the gaps of row i before the diagonal, added up.
 fn add_row(
@@ -43,7 +34,7 @@ fn add_row(
     let mut sum: u64 = 0;
     let mut j: usize = 0;
     while j < i {
-        sum += size(cells[i * n + j], scale * count_at(base, aboves, tops, j));
+        sum += apart(cells[i * n + j], scale * count_at(base, aboves, tops, j));
         j += 1;
     }
     sum

@@ -1,19 +1,15 @@
-use mathlib.Core.Path.{_≡_, refl, sym, ap, _∙_}
-use mathlib.Core.Logic.{_≢_}
-use Prim.Native.Nat.{ℕ, _+_, _-_, _*_, _≤_, _<_}
-use lib.ListN.{length, getD, set}
-use Rattle.base.specs.Numbers.{sum-below}
-use Rattle.limits.specs.Limits.{most-leaves, most-pairs, most-cells}
-use Rattle.gap_sums.specs.inner.GapSums.{Started}
-use Rattle.eligible_pairs.proofs.Lent.{row-inside, row-is}
-use Rattle.gap_sums.proofs.Columns.{part-long, start-turn}
+-- `gap_sums::start` meets its contract. The loop's invariant: the sums of the leaves passed are stored.
+use mathlib.Core.Path.{_≡_}
+use Prim.Native.Nat.{_+_, _-_, _*_, _≤_}
 use native.Mathlib.Omega.{arith}
 use borrow.Author.Needs.{needs}
+use lib.ListN.{length}
+use Rattle.limits.specs.Limits.{most-cells}
+use Rattle.eligible_pairs.proofs.Lent.{row-inside, row-is}
+use Rattle.gap_sums.specs.inner.GapSums.{Started}
+use Rattle.gap_sums.proofs.Columns.{part-long, start-turn}
 use Rattle.gap_sums.proofs.start.Statement.{statement}
 use Rattle.gap_sums.proofs.start.Tie as tie
-use Rattle.gap_sums.proofs.start.Reads as reads
-use Rattle.gap_sums.proofs.start.Lts as lts
-use Rattle.gap_sums.proofs.start_row.Reads as start-row-reads
 
 abbrev Inv-loop : tie.InvT-loop
 Inv-loop n table e sums₀ j₀ sums j = (j ≤ n) × Started n table e j sums
@@ -30,7 +26,6 @@ ends c =
     let s = c .before .before .before in
     row-inside (s .args .n) (c .before .loop .j) (s .args .table .now) (omega arith) (omega arith) (s .pre .1)
 
--- src/lib.rt:349:5
 loop-holds : tie.Need-loop-holds Inv-loop μ-loop
 loop-holds c = (
   omega arith,
@@ -41,31 +36,18 @@ loop-holds c = (
   },
 )
 
--- src/lib.rt:350:18
 mul-at : tie.Need-mul-at Inv-loop μ-loop
 mul-at c = omega (arith, ends c)
 
--- src/lib.rt:351:19
 add-end : tie.Need-add-end Inv-loop μ-loop
 add-end c = omega (arith, ends c)
 
--- src/lib.rt:352:19
 mul-start-row : tie.Need-mul-start-row Inv-loop μ-loop
 mul-start-row c = omega (arith, ends c)
 
--- src/lib.rt:352:19
-sub-start-row : tie.Need-sub-start-row Inv-loop μ-loop
-sub-start-row c = search needs
-
--- src/lib.rt:352:19
-part-start-row-start : tie.Need-part-start-row-start Inv-loop μ-loop
-part-start-row-start c = search needs
-
--- src/lib.rt:352:19
 part-start-row-end : tie.Need-part-start-row-end Inv-loop μ-loop
 part-start-row-end c = omega (arith, ends c)
 
--- src/lib.rt:352:9
 start-row-requires : tie.Need-start-row-requires Inv-loop μ-loop
 start-row-requires c κs =
     let s = c .before .before .before .before .before in
@@ -73,15 +55,9 @@ start-row-requires c κs =
     let long = part-long (s .args .table .now) (l .j * s .args .n) (s .args .n) (ends (c .before .before) .0) in
     (omega (arith, s .pre .0), omega (arith, long), l .inv .1 .long)
 
--- src/lib.rt:353:9
-add-j : tie.Need-add-j Inv-loop μ-loop
-add-j c = search needs
-
--- src/lib.rt:349:5
 loop-less : tie.Need-loop-less Inv-loop μ-loop
 loop-less c = omega arith
 
--- src/lib.rt:349:5
 loop-again : tie.Need-loop-again Inv-loop μ-loop
 loop-again c =
     let s = c .before .before .before .before .before .before in
@@ -91,9 +67,10 @@ loop-again c =
           (c .start-row .ensures),
     )
 
--- src/lib.rt:344:1
 returns : tie.Need-returns Inv-loop μ-loop
-returns c = let e : c .before .loop .j ≡ c .before .before .before .args .n = omega arith in rw e at (c .before .loop .inv .1)
+returns c =
+    let s = c .before .before .before in
+    let e : c .before .loop .j ≡ s .args .n = omega arith in rw e at (c .before .loop .inv .1)
 
 pub start-spec : {M : Type 1} → statement M
 start-spec =
@@ -105,11 +82,10 @@ start-spec =
     mul-at
     add-end
     mul-start-row
-    sub-start-row
-    part-start-row-start
+    (λ c. search needs) (λ c. search needs)
     part-start-row-end
     start-row-requires
-    add-j
+    (λ c. search needs)
     loop-less
     loop-again
     returns)

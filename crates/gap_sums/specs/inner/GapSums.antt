@@ -25,8 +25,8 @@ most-leaf-gaps = most-leaves * largest-gap
 abbrev pub most-gaps : ℕ
 most-gaps = most-leaves * most-leaf-gaps
 
--- what is expected of a cell of leaf y and a leaf of the subtree labelled a, but for the m of that leaf; 0 where y is in
--- that subtree itself
+-- what is expected of a cell of leaf y and a leaf of the subtree labelled a, but for the m of that leaf; 0 where y is
+-- in that subtree itself
 unfoldable pub due-at : (n : ℕ) (label m sizes p : List ℕ) (a y : ℕ) → ℕ
 due-at n label m sizes p a y =
     let b = getD label y 0 in

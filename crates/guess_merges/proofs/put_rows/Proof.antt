@@ -1,17 +1,14 @@
-use mathlib.Core.Path.{_≡_, refl, sym, _∙_}
-use mathlib.Core.Logic.{_≢_, inl, inr}
-use Prim.Native.Nat.{ℕ, _+_, _-_, _≤_, _<_}
-use lib.ListN.{length, getD}
+-- `guess_merges::put_rows` meets its contract. The loop's invariant: the rows passed are written.
+use mathlib.Core.Path.{_≡_, sym, _∙_}
+use mathlib.Core.Logic.{inl, inr}
+use Prim.Native.Nat.{_-_, _≤_, _<_}
+use native.Mathlib.Omega.{arith}
+use borrow.Author.Needs.{needs}
 use Rattle.pair_counts.proofs.Pairs.{P-most}
 use Rattle.guess_merges.specs.inner.Blocks.{BlockPut}
 use Rattle.guess_merges.proofs.Blocks.{block-start, block-skip, block-turn}
-use native.Mathlib.Omega.{arith}
-use borrow.Author.Needs.{needs}
 use Rattle.guess_merges.proofs.put_rows.Statement.{statement}
 use Rattle.guess_merges.proofs.put_rows.Tie as tie
-use Rattle.guess_merges.proofs.put_rows.Reads as reads
-use Rattle.guess_merges.proofs.put_rows.Lts as lts
-use Rattle.guess_merges.proofs.put_row.Reads as put-row-reads
 
 abbrev Inv-loop : tie.InvT-loop
 Inv-loop n label m a b e own₀ x₀ own x = (x ≤ n) × BlockPut n label m a b e x own₀ own
@@ -19,31 +16,12 @@ Inv-loop n label m a b e own₀ x₀ own x = (x ≤ n) × BlockPut n label m a b
 abbrev μ-loop : tie.MeasureT-loop
 μ-loop n label m a b e own₀ x₀ own x = n - x
 
--- src/lib.rt:59:5
 loop-holds : tie.Need-loop-holds Inv-loop μ-loop
 loop-holds c = (omega arith, block-start)
 
--- src/lib.rt:60:12
-mul-if1 : tie.Need-mul-if1 Inv-loop μ-loop
-mul-if1 c = search needs
-
--- src/lib.rt:60:12
-element-copy-out-if1 : tie.Need-element-copy-out-if1 Inv-loop μ-loop
-element-copy-out-if1 c = search needs
-
--- src/lib.rt:61:44
-mul-put-row : tie.Need-mul-put-row Inv-loop μ-loop
-mul-put-row c = search needs
-
--- src/lib.rt:61:44
-element-copy-out-put-row : tie.Need-element-copy-out-put-row Inv-loop μ-loop
-element-copy-out-put-row c = search needs
-
--- src/lib.rt:61:40
 add-put-row : tie.Need-add-put-row Inv-loop μ-loop
 add-put-row c = omega (arith, P-most, c .before .before .before .before .before .before .pre .2 (c .before .before .before .before .loop .x) (omega arith))
 
--- src/lib.rt:61:13
 put-row-requires : tie.Need-put-row-requires Inv-loop μ-loop
 put-row-requires c κs =
     let s = c .before .before .before .before .before .before .before in
@@ -52,15 +30,9 @@ put-row-requires c κs =
     let lx : l .x < s .args .n = omega arith in
     ((s .pre .0 .0, l .inv .1 .long ∙ s .pre .0 .1), lx, λ q. s .pre .1 (sym o ∙ q), λ y ly q. s .pre .4 (l .x) y lx ly o q)
 
--- src/lib.rt:63:9
-add-x : tie.Need-add-x Inv-loop μ-loop
-add-x c = search needs
-
--- src/lib.rt:59:5
 loop-less : tie.Need-loop-less Inv-loop μ-loop
 loop-less c = omega arith
 
--- src/lib.rt:59:5
 loop-again : tie.Need-loop-again Inv-loop μ-loop
 loop-again c =
     let s = c .before .before .before .before .before in
@@ -72,11 +44,9 @@ loop-again c =
       ],
     )
 
--- src/lib.rt:45:1
 same-length : tie.Need-same-length Inv-loop μ-loop
 same-length c = c .before .loop .inv .1 .long
 
--- src/lib.rt:45:1
 returns : tie.Need-returns Inv-loop μ-loop
 returns c = let e : c .before .loop .x ≡ c .before .before .before .args .n = omega arith in rw e at (c .before .loop .inv .1)
 
@@ -87,13 +57,10 @@ put-rows-spec =
     Inv-loop
     μ-loop
     loop-holds
-    mul-if1
-    element-copy-out-if1
-    mul-put-row
-    element-copy-out-put-row
+    (λ c. search needs) (λ c. search needs) (λ c. search needs) (λ c. search needs)
     add-put-row
     put-row-requires
-    add-x
+    (λ c. search needs)
     loop-less
     loop-again
     same-length

@@ -32,25 +32,25 @@ here c =
 loop-holds : tie.Need-loop-holds Inv-loop μ-loop
 loop-holds c = (omega arith, sizes-begun)
 
-mul-size : tie.Need-mul-size Inv-loop μ-loop
-mul-size c = omega (arith, here c .0)
+mul-apart : tie.Need-mul-apart Inv-loop μ-loop
+mul-apart c = omega (arith, here c .0)
 
-add-size : tie.Need-add-size Inv-loop μ-loop
-add-size c = omega (arith, here c .0)
+add-apart : tie.Need-add-apart Inv-loop μ-loop
+add-apart c = omega (arith, here c .0)
 
-mul-size-2 : tie.Need-mul-size-2 Inv-loop μ-loop
-mul-size-2 c = omega (arith, here c .0)
+mul-apart-2 : tie.Need-mul-apart-2 Inv-loop μ-loop
+mul-apart-2 c = omega (arith, here c .0)
 
-shared-slice-read-size : tie.Need-shared-slice-read-size Inv-loop μ-loop
-shared-slice-read-size c = here (c .before) .1
+shared-slice-read-apart : tie.Need-shared-slice-read-apart Inv-loop μ-loop
+shared-slice-read-apart c = here (c .before) .1
 
 count-at-requires : tie.Need-count-at-requires Inv-loop μ-loop
 count-at-requires c κs =
     let fit = c .before .before .before .before .pre .0 in
     count-asked fit (c .before .before .loop .j) (omega (arith, fit .row))
 
-mul-size-3 : tie.Need-mul-size-3 Inv-loop μ-loop
-mul-size-3 c =
+mul-apart-3 : tie.Need-mul-apart-3 Inv-loop μ-loop
+mul-apart-3 c =
     let s = c .before .before .before .before .before in
     let fits = s .pre .0 .found .fits (c .before .before .before .loop .j) (omega (arith, s .pre .0 .row)) in
     let few : c .count-at .result ≤ most-depth = omega (arith, fits, c .count-at .ensures) in
@@ -59,13 +59,13 @@ mul-size-3 c =
 add-sum : tie.Need-add-sum Inv-loop μ-loop
 add-sum c =
     let fit = c .before .before .before .before .before .before .pre .0 in
-    omega (arith, c .before .before .before .before .loop .inv .1 .small, c .size .ensures .1, fit .row, fit .few)
+    omega (arith, c .before .before .before .before .loop .inv .1 .small, c .apart .ensures .1, fit .row, fit .few)
 
 loop-again : tie.Need-loop-again Inv-loop μ-loop
 loop-again c = (
   omega arith,
   sizes-more (c .before .before .before .before .loop .inv .1)
-      (c .size .ensures .0 ∙ rw (c .before .count-at .ensures)) (c .size .ensures .1),
+      (c .apart .ensures .0 ∙ rw (c .before .count-at .ensures)) (c .apart .ensures .1),
 )
 
 returns : tie.Need-returns Inv-loop μ-loop
@@ -81,12 +81,12 @@ add-row-spec =
     Inv-loop
     μ-loop
     loop-holds
-    mul-size
-    add-size
-    mul-size-2
-    shared-slice-read-size
+    mul-apart
+    add-apart
+    mul-apart-2
+    shared-slice-read-apart
     count-at-requires
-    mul-size-3
+    mul-apart-3
     (λ c κs. search needs)
     add-sum
     (λ c. search needs) (λ c. search needs)
