@@ -3,7 +3,7 @@
        guess SHEET
 
    Where a tree has the table, that tree is rebuilt. Where none has, the tree is a guess: its total gap says how far off
-   it is in all, and the pairs of strains that are furthest off are those to type again. The tree is filed with its
+   it is in all, and the pairs of strains that are furthest off are the first to look at. The tree is filed with its
    origin, so that nobody takes a guess for a rebuilt tree later.
 
    A thread that calls quartree_guess needs QUARTREE_GUESS_STACK_BYTES of stack, which main's has. */

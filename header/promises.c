@@ -2,10 +2,11 @@
    once more, as the scope has them, and every call is made through the header.
 
    Each call is accepted at its least leaf count, at 5 and at its most, with lengths that the macros say; a call that
-   takes a table with one of counts and with a poll's. At 5 leaves it is refused in every way that its comment names: by
-   one fault alone, and by that fault with all that are judged after it. An accepted call has to write its result and
-   nothing else; a refused one nothing. The tree is a comb: at 5 leaves that of the scope's sheet and text. It is C and
-   C++. The first claim that fails is printed and ends the program. */
+   takes a table with one of counts and with a poll's, and the guess besides with tables that no tree has. At 5 leaves
+   it is refused in every way that its comment names: by one fault alone, and by that fault with all that are judged
+   after it. An accepted call has to write its result and nothing else; a refused one nothing. The tree is a comb: at 5
+   leaves that of the scope's sheet and text. It is C and C++. The first claim that fails is printed and ends the
+   program. */
 #include "quartree.h"
 #include "quartree.h"
 #include <stdio.h>
