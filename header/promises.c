@@ -662,9 +662,9 @@ static void try_words(void)
 }
 
 /* Tables that no tree has, by their cells above the diagonal, with the tree and the total gap that are due. Those of
-   six leaves have another tree where sums are compared and not means, where ties are taken otherwise, where m grows by
-   a subtree's own size, and where the word for the table is the other; the first and the last of them also where means
-   are cut to whole numbers. */
+   six leaves have another tree where sums are compared and not means, where of equal means the last pair is taken,
+   where m grows by a subtree's own size, and where the word for the table is the other; the first and the last of them
+   also where means are cut to whole numbers. */
 static const struct {
     size_t leaves;
     uint32_t said, above[15];
