@@ -50,6 +50,10 @@ static void rebuild(void)
 {
     reply = quartree_rebuild(leaves, QUARTREE_COUNTS, table, cells, standard, of(QUARTREE_LISTING_NUMBERS(N)));
 }
+static void guess(void)
+{
+    reply = quartree_guess(leaves, QUARTREE_COUNTS, table, cells, standard, of(QUARTREE_LISTING_NUMBERS(N)));
+}
 static void guided(void)
 {
     reply = quartree_rebuild_guided(leaves, QUARTREE_COUNTS, table, cells, merges, QUARTREE_MERGE_NUMBERS(N), standard,
@@ -69,6 +73,10 @@ static void rebuild_of_poll(void)
 {
     reply = quartree_rebuild(poll_leaves, QUARTREE_POLL, sums, POLL * POLL, standard,
                              of(QUARTREE_LISTING_NUMBERS(POLL)));
+}
+static void guess_of_poll(void)
+{
+    reply = quartree_guess(poll_leaves, QUARTREE_POLL, sums, POLL * POLL, standard, of(QUARTREE_LISTING_NUMBERS(POLL)));
 }
 static void guided_of_poll(void)
 {
@@ -91,12 +99,15 @@ static void read_text(void)
 static const struct {
     const char *name;
     void (*call)(void);
+    int guesses; /* it has a limit of its own */
 } calls[] = {
-    {"check", check}, {"standardise", standardise}, {"restandardise", restandardise}, {"splits", splits},
-    {"pairing", pairing}, {"table", write_table}, {"gap", gap}, {"rebuild", rebuild}, {"rebuild_guided", guided},
-    {"poll", poll}, {"gap of a poll", gap_of_poll}, {"rebuild of a poll", rebuild_of_poll},
-    {"rebuild_guided of a poll", guided_of_poll}, {"check_sheet", check_sheet}, {"sheet_table", sheet_table},
-    {"sheet_name", sheet_name}, {"rebuild_sheet", rebuild_sheet}, {"export", write_text}, {"import", read_text},
+    {"check", check, 0}, {"standardise", standardise, 0}, {"restandardise", restandardise, 0}, {"splits", splits, 0},
+    {"pairing", pairing, 0}, {"table", write_table, 0}, {"gap", gap, 0}, {"rebuild", rebuild, 0},
+    {"rebuild_guided", guided, 0}, {"guess", guess, 1}, {"poll", poll, 0}, {"gap of a poll", gap_of_poll, 0},
+    {"rebuild of a poll", rebuild_of_poll, 0}, {"rebuild_guided of a poll", guided_of_poll, 0},
+    {"guess of a poll", guess_of_poll, 1}, {"check_sheet", check_sheet, 0}, {"sheet_table", sheet_table, 0},
+    {"sheet_name", sheet_name, 0}, {"rebuild_sheet", rebuild_sheet, 0}, {"export", write_text, 0},
+    {"import", read_text, 0},
 };
 enum { CALLS = sizeof calls / sizeof *calls };
 
@@ -331,7 +342,7 @@ static size_t depth(void (*call)(void))
 
 int main(void)
 {
-    size_t before = depth(nothing), taken[CALLS] = {0}, most = 0;
+    size_t before = depth(nothing), taken[CALLS] = {0}, most[2] = {0, 0};
     unsigned answered = 0;
     for (size_t fault = 0; fault < FAULTS; fault++)
         for (int shape = 0; shape < 2 * SHAPES; shape++) {
@@ -349,12 +360,14 @@ int main(void)
         }
     for (size_t c = 0; c < CALLS; c++) {
         printf("| %s | %zu |\n", calls[c].name, taken[c]);
-        most = taken[c] > most ? taken[c] : most;
+        size_t *limited = &most[calls[c].guesses];
+        *limited = taken[c] > *limited ? taken[c] : *limited;
     }
     if (answered != (1u << 20) - 1) {
         printf("not every refusal was met: %x\n", answered);
         return 1;
     }
-    printf("the most is %zu; QUARTREE_STACK_BYTES is %d\n", most, QUARTREE_STACK_BYTES);
-    return most <= QUARTREE_STACK_BYTES ? 0 : 1;
+    printf("a guess takes %zu at most; QUARTREE_GUESS_STACK_BYTES is %d\n", most[1], QUARTREE_GUESS_STACK_BYTES);
+    printf("any other call takes %zu at most; QUARTREE_STACK_BYTES is %d\n", most[0], QUARTREE_STACK_BYTES);
+    return most[0] <= QUARTREE_STACK_BYTES && most[1] <= QUARTREE_GUESS_STACK_BYTES ? 0 : 1;
 }

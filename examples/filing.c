@@ -9,26 +9,16 @@
 #include "quartree.h"
 #include "listing_words.h"
 #include "sheet_file.h"
+#include "tree_record.h"
 #include <stdio.h>
 #include <string.h>
 
-/* One number more than the longest listing, so that a longer one is refused and not cut. */
-enum {
-    MOST = QUARTREE_MOST_LEAVES, CELLS = QUARTREE_TABLE_CELLS(MOST), NUMBERS = QUARTREE_LISTING_NUMBERS(MOST) + 1,
-    TREES = 3
-};
-
-/* A tree record. */
-struct filed {
-    size_t n;
-    uint32_t origin;
-    uint16_t listing[NUMBERS];
-};
+enum { CELLS = QUARTREE_TABLE_CELLS(QUARTREE_MOST_LEAVES), TREES = 3 };
 
 static uint8_t sheet[SHEET_ROOM];
 static uint32_t table[CELLS];
 static int64_t gaps[CELLS];
-static struct filed trees[TREES], again;
+static struct tree_record trees[TREES], again;
 static size_t count;
 
 /* Is the reply an accepted one? A refusal is printed. */
@@ -51,16 +41,9 @@ static void file_next(uint64_t reply, size_t n, uint32_t origin)
     }
 }
 
-static void print_record(const struct filed *tree)
-{
-    printf("%s", quartree_origin_text(tree->origin));
-    for (size_t place = 0; place < QUARTREE_LISTING_NUMBERS(tree->n); place++)
-        printf(" %d", tree->listing[place]);
-}
-
 /* Has the tree the sheet's table? What is rebuilt was rebuilt from it. Else the gap tells; it is not refused, since the
    table and the listing were accepted before. */
-static void print_reliance(const struct filed *tree)
+static void print_reliance(const struct tree_record *tree)
 {
     if (tree->origin == QUARTREE_REBUILT) {
         printf(": has the sheet's table\n");
@@ -86,13 +69,14 @@ int main(int argc, char **argv)
     size_t n = (size_t)QUARTREE_FIGURE(reply);
 
     /* The calls that make a tree tell its origin. */
-    reply = quartree_rebuild(n, QUARTREE_COUNTS, table, QUARTREE_TABLE_CELLS(n), trees[count].listing, NUMBERS);
+    reply = quartree_rebuild(n, QUARTREE_COUNTS, table, QUARTREE_TABLE_CELLS(n), trees[count].listing, RECORD_NUMBERS);
     file_next(reply, n, (uint32_t)QUARTREE_FIGURE(reply));
-    reply = quartree_import(sheet, sheet_len, (const uint8_t *)argv[2], strlen(argv[2]), trees[count].listing, NUMBERS);
+    reply = quartree_import(sheet, sheet_len, (const uint8_t *)argv[2], strlen(argv[2]), trees[count].listing,
+                            RECORD_NUMBERS);
     file_next(reply, n, (uint32_t)QUARTREE_FIGURE(reply));
 
     /* A listing of one's own is listed, once it is checked. */
-    size_t len = read_listing(argv + 3, (size_t)argc - 3, trees[count].listing, NUMBERS);
+    size_t len = read_listing(argv + 3, (size_t)argc - 3, trees[count].listing, RECORD_NUMBERS);
     file_next(quartree_check(n, trees[count].listing, len), n, QUARTREE_LISTED);
 
     for (size_t k = 0; k < count; k++) {
@@ -102,10 +86,10 @@ int main(int argc, char **argv)
 
     /* The last one again, in the form in which trees are compared. It is the same tree and has the same origin. */
     if (count > 0) {
-        const struct filed *last = &trees[count - 1];
+        const struct tree_record *last = &trees[count - 1];
         again.n = n;
         reply = quartree_restandardise(n, last->origin, last->listing, QUARTREE_LISTING_NUMBERS(n), again.listing,
-                                       NUMBERS);
+                                       RECORD_NUMBERS);
         again.origin = (uint32_t)QUARTREE_FIGURE(reply);
         printf("restandardised: ");
         print_record(&again);

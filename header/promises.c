@@ -2,10 +2,11 @@
    once more, as the scope has them, and every call is made through the header.
 
    Each call is accepted at its least leaf count, at 5 and at its most, with lengths that the macros say; a call that
-   takes a table with one of counts and with a poll's. At 5 leaves it is refused in every way that its comment names: by
-   one fault alone, and by that fault with all that are judged after it. An accepted call has to write its result and
-   nothing else; a refused one nothing. The tree is a comb: at 5 leaves that of the scope's sheet and text. It is C and
-   C++. The first claim that fails is printed and ends the program. */
+   takes a table with one of counts and with a poll's, and the guess besides with tables that no tree has. At 5 leaves
+   it is refused in every way that its comment names: by one fault alone, and by that fault with all that are judged
+   after it. An accepted call has to write its result and nothing else; a refused one nothing. The tree is a comb: at 5
+   leaves that of the scope's sheet and text. It is C and C++. The first claim that fails is printed and ends the
+   program. */
 #include "quartree.h"
 #include "quartree.h"
 #include <stdio.h>
@@ -42,8 +43,10 @@ HOLDS(refusal_19, QUARTREE_REFUSED_UNMATCHED == 19);
 HOLDS(leaves, QUARTREE_LEAST_LEAVES == 3 && QUARTREE_MOST_LEAVES == 128);
 HOLDS(poll_leaves, QUARTREE_POLL_LEAST_LEAVES == 4 && QUARTREE_POLL_MOST_LEAVES == 32);
 HOLDS(words_for_a_table, QUARTREE_COUNTS == 0 && QUARTREE_POLL != 0);
-HOLDS(origins_of_now, QUARTREE_REBUILT == 0 && QUARTREE_LISTED == 1 && QUARTREE_IMPORTED == 2);
-HOLDS(origins_of_later, QUARTREE_GUESSED == 3 && QUARTREE_GRAFTED == 4);
+HOLDS(origins_of_lent_trees, QUARTREE_LISTED == 1 && QUARTREE_IMPORTED == 2);
+HOLDS(origins_of_tables, QUARTREE_REBUILT == 0 && QUARTREE_GUESSED == 3);
+HOLDS(origin_of_later, QUARTREE_GRAFTED == 4);
+HOLDS(stack_bytes, QUARTREE_GUESS_STACK_BYTES > QUARTREE_STACK_BYTES);
 HOLDS(sheet_bytes, QUARTREE_SHEET_MOST_BYTES == 21512 && 128 * 41 + 128 * 127 + 8 == 21512);
 HOLDS(listing_numbers, QUARTREE_LISTING_NUMBERS(3) == 2 && QUARTREE_LISTING_NUMBERS(128) == 252);
 HOLDS(listing_bytes, QUARTREE_LISTING_BYTES(3) == 4 && QUARTREE_LISTING_BYTES(128) == 504);
@@ -251,6 +254,7 @@ static uint64_t gap(void)
     return quartree_gap(n, word, lent.table, cells, lent.listing, listing_len, lent.out.gaps, room);
 }
 static uint64_t rebuild(void) { return quartree_rebuild(n, word, lent.table, cells, lent.out.numbers, room); }
+static uint64_t guess(void) { return quartree_guess(n, word, lent.table, cells, lent.out.numbers, room); }
 static uint64_t guided(void)
 {
     return quartree_rebuild_guided(n, word, lent.table, cells, lent.merges, merges_len, lent.out.numbers, room);
@@ -287,6 +291,12 @@ static uint64_t rebuilt(void) { return 0; }
 static uint64_t imported(void) { return 2; }
 static uint64_t grafted(void) { return 4; }
 static uint64_t leaf_count(void) { return n; }
+/* A table of zeros is off from a tree's by the tree's own cells, which total twice the quartets, and it has the comb as
+   its guess. */
+static uint64_t guessed_comb(void)
+{
+    return 256 * (word == QUARTREE_COUNTS ? 2 : 12) * QUARTREE_POLL_RECORDS(n) + 3;
+}
 static uint64_t length_of_text(void) { return text_len; }
 static uint64_t place_of_last_name(void)
 {
@@ -297,7 +307,7 @@ static uint64_t place_of_last_name(void)
 /* What a call takes. */
 enum {
     COUNT = 1, POLL_COUNT = 2, LISTING = 4, QUESTION = 8, TABLE = 16, MERGES = 32, RECORDS = 64, SHEET = 128,
-    LEAF = 256, OUTPUT = 512, TEXT = 1024, POLL_TABLE = 2048
+    LEAF = 256, OUTPUT = 512, TEXT = 1024, POLL_TABLE = 2048, ZEROS = 4096
 };
 
 struct entry {
@@ -322,12 +332,19 @@ static const struct entry entries[] = {
     {"table", write_table, COUNT | LISTING | OUTPUT, 3, 128, {1, 2, 3, 7, 8}, nothing, of_table, table, 4},
     {"gap", gap, COUNT | LISTING | TABLE | OUTPUT, 3, 128, {1, 2, 3, 7, 8, 4, 5}, nothing, of_table, gaps, 8},
     {"rebuild", rebuild, COUNT | TABLE | OUTPUT, 3, 128, {1, 2, 3, 4, 5, 6}, rebuilt, of_listing, standard, 2},
+    {"guess", guess, COUNT | TABLE | OUTPUT, 3, 128, {1, 2, 3, 4, 5}, rebuilt, of_listing, standard, 2},
+    {"guess of zeros", guess, COUNT | TABLE | ZEROS | OUTPUT, 4, 128, {1, 2, 3, 4, 5}, guessed_comb, of_listing,
+     standard, 2},
     {"rebuild_guided", guided, COUNT | TABLE | MERGES | OUTPUT, 3, 128, {1, 2, 3, 4, 5, 12}, rebuilt, of_listing,
      standard, 2},
     {"gap of a poll", gap, POLL_COUNT | LISTING | TABLE | POLL_TABLE | OUTPUT, 4, 32, {1, 2, 3, 7, 8, 4, 5}, nothing,
      of_table, gaps, 8},
     {"rebuild of a poll", rebuild, POLL_COUNT | TABLE | POLL_TABLE | OUTPUT, 4, 32, {1, 2, 3, 4, 5, 6}, rebuilt,
      of_listing, standard, 2},
+    {"guess of a poll", guess, POLL_COUNT | TABLE | POLL_TABLE | OUTPUT, 4, 32, {1, 2, 3, 4, 5}, rebuilt, of_listing,
+     standard, 2},
+    {"guess of a poll's zeros", guess, POLL_COUNT | TABLE | POLL_TABLE | ZEROS | OUTPUT, 4, 32, {1, 2, 3, 4, 5},
+     guessed_comb, of_listing, standard, 2},
     {"rebuild_guided of a poll", guided, POLL_COUNT | TABLE | POLL_TABLE | MERGES | OUTPUT, 4, 32, {1, 2, 3, 4, 5, 12},
      rebuilt, of_listing, standard, 2},
     {"poll", poll, POLL_COUNT | RECORDS | OUTPUT, 4, 32, {1, 2, 3, 10, 11}, nothing, of_table, sixths, 4},
@@ -510,6 +527,8 @@ static void fill_for(const struct entry *entry, size_t leaves)
     word = (entry->takes & POLL_TABLE) != 0 ? QUARTREE_POLL : QUARTREE_COUNTS;
     if (word == QUARTREE_POLL)
         memcpy(lent.table, sixths, cells * sizeof *sixths);
+    if ((entry->takes & ZEROS) != 0)
+        table_of_zeros();
 }
 
 static uint64_t make(const struct entry *entry)
@@ -635,10 +654,137 @@ static void try_words(void)
             room = listing_len;
             claim((rebuild() == QUARTREE_ACCEPTED) == right, "rebuild", "takes another word for a table", 6);
             claim((guided() == QUARTREE_ACCEPTED) == right, "rebuild_guided", "takes another word for a table", 12);
+            claim((guess() == QUARTREE_ACCEPTED) == right, "guess", "takes another word for a table", 0);
             room = cells;
             claim(gap() == QUARTREE_ACCEPTED && (memcmp(lent.out.gaps, gaps, cells * sizeof *gaps) == 0) == right,
                   "gap", "takes another word for a table", 0);
         }
+}
+
+/* Tables that no tree has, by their cells above the diagonal, with the tree and the total gap that are due. Those of
+   six leaves have another tree where sums are compared and not means, where of equal means the last pair is taken,
+   where m grows by a subtree's own size, and where the word for the table is the other; the first and the last of them
+   also where means are cut to whole numbers. */
+static const struct {
+    size_t leaves;
+    uint32_t said, above[15];
+    uint16_t due[8];
+    uint64_t total;
+} rough[] = {
+    {3, 0, {1, 0, 4294967295}, {1, 2}, 4294967296},
+    {4, 0, {0, 1, 0, 1, 0, 0}, {1, 3, 4, 2}, 2},
+    {6, 0, {2, 1, 6, 6, 5, 1, 6, 1, 3, 1, 5, 4, 3, 3, 0}, {1, 4, 6, 2, 7, 5, 8, 3}, 33},
+    {6, 1, {27, 18, 30, 33, 9, 18, 15, 6, 3, 33, 24, 0, 33, 18, 18}, {3, 5, 1, 6, 7, 2, 8, 4}, 195},
+    {6, 65536, {1, 7, 36, 1, 12, 12, 14, 26, 11, 33, 4, 6, 15, 32, 8}, {2, 5, 1, 6, 7, 4, 8, 3}, 178},
+};
+enum { ROUGH = sizeof rough / sizeof *rough };
+
+/* Puts a number into a cell and its mirror cell. */
+static void put_cell(size_t i, size_t j, uint32_t cell) { lent.table[n * i + j] = lent.table[n * j + i] = cell; }
+
+/* The total gap of the table from the tree of the listing lent. */
+static uint64_t total_gap(void)
+{
+    uint64_t total = 0;
+    room = cells;
+    claim(gap() == QUARTREE_ACCEPTED, "gap", "is refused", 0);
+    for (size_t i = 0; i < n; i++)
+        for (size_t j = i + 1; j < n; j++)
+            total += (uint64_t)llabs(lent.out.gaps[n * i + j]);
+    return total;
+}
+
+/* What the header says of the guess of every table: marked rebuilt and answered as by the rebuild, or marked guessed
+   where that says 6; listed in the standard form; with the total gap, which is 0 where it is rebuilt alone. Its tree is
+   left as the listing that is lent. */
+static void try_guess(void)
+{
+    uint16_t exact[QUARTREE_LISTING_NUMBERS(128)];
+    size_t bytes = listing_len * sizeof *exact;
+    uint64_t of_rebuild, reply, total;
+    room = listing_len;
+    memset(&lent.out, 0xA5, sizeof lent.out);
+    of_rebuild = rebuild();
+    memcpy(exact, lent.out.numbers, bytes);
+    reply = guess();
+    claim(QUARTREE_NUMBER(reply) == (unsigned)QUARTREE_ACCEPTED, "guess", "is refused", 0);
+    if (of_rebuild == QUARTREE_ACCEPTED)
+        claim(reply == of_rebuild && memcmp(lent.out.numbers, exact, bytes) == 0, "guess", "answers otherwise", 0);
+    else
+        claim(of_rebuild == QUARTREE_REFUSED_NO_TREE && QUARTREE_FIGURE_Y(reply) == QUARTREE_GUESSED, "guess",
+              "has another origin", 6);
+    memcpy(lent.listing, lent.out.numbers, bytes);
+    claim(standardise() == QUARTREE_ACCEPTED && memcmp(lent.listing, lent.out.numbers, bytes) == 0, "guess",
+          "has a listing that is not standard", 0);
+    total = total_gap();
+    claim(QUARTREE_FIGURE_X(reply) == total && total >> 45 == 0, "guess", "has another total", 0);
+    claim((total == 0) == (QUARTREE_FIGURE_Y(reply) == QUARTREE_REBUILT), "guess", "has another origin", 0);
+}
+
+/* The rough tables; that a tree may be nearer than the guess; and that a sheet is guessed by two calls. */
+static void try_rough(void)
+{
+    static const uint16_t nearer[] = {1, 3, 2, 4, 6, 7, 8, 5};
+    for (size_t r = 0; r < ROUGH; r++) {
+        const uint32_t *next = rough[r].above;
+        fill(rough[r].leaves);
+        word = rough[r].said;
+        for (size_t i = 0; i < n; i++)
+            for (size_t j = i + 1; j < n; j++)
+                put_cell(i, j, *next++);
+        room = listing_len;
+        claim(guess() == 256 * 3 + 65536 * rough[r].total, "guess", "has another figure for a rough table", 0);
+        claim(memcmp(lent.out.numbers, rough[r].due, listing_len * sizeof *rough[r].due) == 0, "guess",
+              "has another tree for a rough table", 0);
+        try_guess();
+        if (r == 2) {
+            memcpy(lent.listing, nearer, sizeof nearer);
+            claim(total_gap() == 23, "guess", "is as near as any tree", 0);
+        }
+    }
+    fill(5);
+    word = QUARTREE_COUNTS;
+    sheet_of_zeros();
+    room = cells;
+    claim(sheet_table() == 256 * 5, "sheet_table", "refuses a rough sheet", 0);
+    memcpy(lent.table, lent.out.cells, cells * sizeof *lent.table);
+    room = listing_len;
+    claim(guess() == 256 * 3 + 65536 * 10, "guess", "has another figure for a sheet", 0);
+}
+
+static uint32_t any_number(void)
+{
+    static uint64_t state = 1;
+    state = state * 6364136223846793005u + 1442695040888963407u;
+    return (uint32_t)(state >> 32);
+}
+
+/* Tables of every kind, from the least leaves to the most: the comb's with a few cells changed or none, cells by chance
+   within a tree's or of any size, and the greatest. */
+static void try_tables(void)
+{
+    static const size_t sizes[] = {3, 4, 5, 6, 7, 8, 16, 32, 128};
+    enum { CHANGED, SMALL, ANY, GREATEST, KINDS };
+    for (size_t s = 0; s < sizeof sizes / sizeof *sizes; s++)
+        for (int kind = CHANGED; kind < KINDS; kind++)
+            for (uint32_t said = QUARTREE_COUNTS; said <= QUARTREE_POLL; said++) {
+                uint32_t most = (uint32_t)pairs_of(sizes[s]) * (said == QUARTREE_POLL ? 6 : 1);
+                if (said == QUARTREE_POLL && (sizes[s] < 4 || sizes[s] > 32))
+                    continue;
+                fill(sizes[s]);
+                word = said;
+                if (said == QUARTREE_POLL)
+                    memcpy(lent.table, sixths, cells * sizeof *sixths);
+                for (size_t i = 0; i < n; i++)
+                    for (size_t j = i + 1; j < n; j++)
+                        if (kind == GREATEST)
+                            put_cell(i, j, UINT32_MAX);
+                        else if (kind == ANY)
+                            put_cell(i, j, any_number());
+                        else if (kind == SMALL || any_number() % (2 * n) == 0)
+                            put_cell(i, j, any_number() % (most + 1));
+                try_guess();
+            }
 }
 
 /* What each code adds to the cells (0,1), (0,2), (0,3), (1,2), (1,3) and (2,3) of four leaves; and the total of a poll
@@ -713,7 +859,8 @@ static int has_table(void)
 }
 
 /* A record that is marked rebuilt has the table that the rebuild was given, also when it was restandardised: by either
-   rebuild, of counts and of a poll's table. A listing that was checked stays listed, and what was imported imported. */
+   rebuild, of counts and of a poll's table. A listing that was checked stays listed, what was imported imported, and
+   what was guessed guessed; the whole figure of a guess is no origin. */
 static void try_records(void)
 {
     static uint64_t (*const rebuilds[])(void) = {rebuild, guided};
@@ -733,6 +880,14 @@ static void try_records(void)
     claim(check() == QUARTREE_ACCEPTED, "check", "refuses a listing", 0);
     memcpy(lent.out.numbers, lent.listing, listing_len * sizeof *lent.listing);
     claim(restandardise_twice(QUARTREE_LISTED) == 256 * QUARTREE_LISTED, "restandardise", "has another origin", 0);
+    fill(5);
+    room = listing_len;
+    word = QUARTREE_COUNTS;
+    table_of_zeros();
+    origin = (uint32_t)QUARTREE_FIGURE_Y(guess());
+    claim(restandardise_twice(origin) == 256 * QUARTREE_GUESSED, "restandardise", "has another origin", 0);
+    claim(restandardise_twice((uint32_t)QUARTREE_FIGURE(guess())) == 256 * QUARTREE_LISTED, "restandardise",
+          "takes a total gap for an origin", 0);
     fill(5);
     room = listing_len;
     claim(import_text() == 256 * QUARTREE_IMPORTED && restandardise_twice(QUARTREE_IMPORTED) == 256 * QUARTREE_IMPORTED,
@@ -782,6 +937,8 @@ int main(void)
         claim((met >> number & 1) != 0, "*", "no call is refused", number);
     try_gaps();
     try_words();
+    try_rough();
+    try_tables();
     try_codes();
     try_origins();
     try_records();

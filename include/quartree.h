@@ -1,9 +1,9 @@
 /* quartree.h: count tables and strain trees.
 
-   The part turns a table of quartet counts into the one tree that has it, or refuses; and it goes the other way. It
-   writes trees as Newick text, and reads them. Trees have no root and no branch lengths. This header is the manual: the
-   words, the sizes, the reply and the causes of refusal, the origins, what a caller owes, what every call promises, and
-   then the calls.
+   The part turns a table of quartet counts into the one tree that has it, or refuses; and it goes the other way. Where
+   no tree has the table, it guesses one, if it is asked to, and says so. It writes trees as Newick text, and reads
+   them. Trees have no root and no branch lengths. This header is the manual: the words, the sizes, the reply and the
+   causes of refusal, the origins, what a caller owes, what every call promises, and then the calls.
 
    Link with libquartree.a. Of the C library it takes memcpy, memmove, memset and memcmp at most.
 
@@ -16,12 +16,15 @@
 #include <stddef.h>
 #include <stdint.h>
 
-#define QUARTREE_VERSION "0.5.0"
+#define QUARTREE_VERSION "0.6.0"
 #define QUARTREE_VERSION_MAJOR 0
-#define QUARTREE_VERSION_MINOR 5
+#define QUARTREE_VERSION_MINOR 6
 #define QUARTREE_VERSION_PATCH 0
 
-/* From 0.4 to 0.5: an accepted quartree_import replies with its tree's origin as the figure: 512, where it was 0. No
+/* From 0.5 to 0.6: quartree_guess is new; it takes more stack than the other calls (QUARTREE_GUESS_STACK_BYTES). Where
+   no tree has a sheet's table, the program rebuild prints a guess, where it printed `refused 6`. Nothing else changes.
+
+   From 0.4 to 0.5: an accepted quartree_import replies with its tree's origin as the figure: 512, where it was 0. No
    compiler notices: what compares that reply with 0 has to compare QUARTREE_NUMBER(reply) with QUARTREE_ACCEPTED. The
    rebuilds tell their origin, too; its number is 0, so they reply as before. quartree_restandardise is new.
 
@@ -59,6 +62,17 @@
    P(n-a-b) + m(i) + m(j), in a poll's table six times that. Merging them adds P(b) to m of A's leaves and P(a) to m of
    B's. After n-1 merges one subtree holds all leaves; the last merge joins two subtrees by an edge and makes no node.
 
+   Guess. The tree that n-1 merges leave when each takes the two different subtrees with the smallest mean gap, eligible
+   or not ('nearest-is'). They start from the single leaves, with every m at 0, and m grows as above. The mean gap of A
+   and B is that of their a*b cells: the sum, over every i in A and j in B, of how far cell (i,j) is from the value that
+   an eligible pair has there, divided by a*b. Means are compared exactly, as fractions. Of equal means the pair with
+   the smallest least leaf is taken, and of these the pair whose other subtree has the smaller least leaf. Where a tree
+   has the table, the guess is that tree ('guess-exact').
+
+   Total gap. Of a table and a tree: the sum, over all i < j, of how far cell (i,j) of the table is from that of the
+   tree, or, of a poll's table, from six times that. It is below 2^45, and 0 exactly when the tree has the table. A
+   guess need not be the tree with the smallest total gap.
+
    Poll. One record a quartet: four leaves a < b < c < d and a pairing code. Codes 0, 1 and 2 are the pairings of
    a, b, c, d. The others are ties: 3 allows all three pairings, 4 allows 0 and 1, 5 allows 0 and 2, and 6 allows 1 and
    2. A poll of n leaves, n from 4 to 32, has a record for every quartet, in lexicographic order of the four leaves.
@@ -89,7 +103,7 @@
    Tree record. A leaf count, a listing and an origin, which a caller keeps side by side; the part keeps none.
 
    Origin. Where the tree of a record came from: rebuilt from a table, listed (lent as a listing), imported from a text,
-   guessed or grafted. No call of this version guesses or grafts. */
+   guessed from a table that no tree has, or grafted. No call of this version grafts. */
 
 /* ---- Sizes ----------------------------------------------------------------------------------------------------------
 
@@ -102,7 +116,8 @@
 #define QUARTREE_POLL_MOST_LEAVES 32
 #define QUARTREE_SHEET_MOST_BYTES (41 * QUARTREE_MOST_LEAVES + QUARTREE_MOST_LEAVES * (QUARTREE_MOST_LEAVES - 1) + 8)
 #define QUARTREE_SET_BYTES (8 * ((QUARTREE_MOST_LEAVES + 63) / 64)) /* of a leaf set: a bit a leaf, in whole words */
-#define QUARTREE_STACK_BYTES 32768 /* of stack, enough for every call */
+#define QUARTREE_STACK_BYTES 32768 /* of stack, enough for every call but quartree_guess */
+#define QUARTREE_GUESS_STACK_BYTES 262144 /* of stack, enough for quartree_guess */
 
 #define QUARTREE_LISTING_NUMBERS(n) (2 * ((size_t)(n) - 2)) /* uint16_t of a listing: two a row */
 #define QUARTREE_LISTING_BYTES(n) (4 * ((size_t)(n) - 2))   /* bytes of a listing, for quartree_rebuild_sheet */
@@ -125,7 +140,8 @@
 #define QUARTREE_NUMBER(reply) ((unsigned)((reply) & 255))
 #define QUARTREE_FIGURE(reply) ((uint64_t)(reply) >> 8)
 
-/* The figures x and y of a reply whose figure is 256 * x + y: refusal 5, and a name's place. */
+/* The figures x and y of a reply whose figure is 256 * x + y: refusal 5, a name's place, and quartree_guess, whose x is
+   a total gap and whose y is an origin. */
 #define QUARTREE_FIGURE_X(reply) (QUARTREE_FIGURE(reply) >> 8)
 #define QUARTREE_FIGURE_Y(reply) (QUARTREE_FIGURE(reply) & 255)
 
@@ -138,7 +154,8 @@ enum quartree_refusal {
     QUARTREE_REFUSED_OUTPUT_ROOM = 3,   /* output shorter than the result */
     QUARTREE_REFUSED_DIAGONAL = 4,      /* diagonal cell not 0; the first such leaf */
     QUARTREE_REFUSED_HALVES = 5,        /* cells (i,j) and (j,i) unequal; 256*i + j, the first in row order, i < j */
-    QUARTREE_REFUSED_NO_TREE = 6,       /* no binary tree on these leaves has the table */
+    QUARTREE_REFUSED_NO_TREE = 6,       /* no binary tree on these leaves has the table: quartree_rebuild and
+                                           quartree_rebuild_sheet alone */
     QUARTREE_REFUSED_CHILD = 7,         /* child neither a leaf 1..n-1 nor an earlier row's node; its position in the
                                            listing */
     QUARTREE_REFUSED_NAMED_BEFORE = 8,  /* child named before; its position in the listing */
@@ -211,9 +228,10 @@ static inline const char *quartree_refusal_text(unsigned number)
 /* ---- Origins --------------------------------------------------------------------------------------------------------
 
    Origins have the numbers 0 to 4. A number above 4 is taken as QUARTREE_LISTED. An accepted quartree_rebuild,
-   quartree_rebuild_guided, quartree_import or quartree_restandardise tells the origin of its tree as the figure. Other
-   figures are no origins: not that of a refused call, nor that of quartree_check, though their 0 would read as
-   QUARTREE_REBUILT. */
+   quartree_rebuild_guided, quartree_import or quartree_restandardise tells the origin of its tree as the figure, and an
+   accepted quartree_guess as QUARTREE_FIGURE_Y. Other figures are no origins: not that of a refused call, nor that of
+   quartree_check, though their 0 would read as QUARTREE_REBUILT; nor the whole figure of quartree_guess, which holds
+   the total gap too. */
 
 #define QUARTREE_REBUILT 0
 #define QUARTREE_LISTED 1
@@ -243,8 +261,10 @@ static inline const char *quartree_origin_text(uint32_t origin)
 /* What a lab may file and rely on:
 
    - Of every record that comes out of a chain of the part's calls, each handed what the one before it made: where it
-     is marked rebuilt, its tree has the table that the rebuild was given, a poll's being six times the tree's own
-     ('made-rebuilt'). Listed and imported promise nothing of a table.
+     is marked rebuilt, its tree has the table that the rebuild or quartree_guess was given, a poll's being six times
+     the tree's own ('made-rebuilt'). Listed and imported promise nothing of a table.
+   - Guessed is told exactly where no tree has the table given ('guessed-exactly'), so the tree has it not. The tree is
+     a proposal. By how much it is off is told beside the origin, and pair by pair by quartree_gap; no record keeps it.
    - quartree_restandardise keeps the tree and the origin ('restandardise-same').
    - A listing of the caller's own is filed as listed, once quartree_check accepts it.
    - The tree that quartree_rebuild_sheet writes may be filed as rebuilt, since it has the sheet's table; that call has
@@ -262,7 +282,8 @@ static inline const char *quartree_origin_text(uint32_t origin)
    - Pointers are aligned for their element type.
    - An output overlaps no input of the same call. Inputs may overlap. An output may hold anything before the call.
    - While a call runs, nobody else writes its inputs, or reads or writes its output.
-   - The stack has QUARTREE_STACK_BYTES left. No call takes more; this is measured, and not proved.
+   - The stack has QUARTREE_STACK_BYTES left, for quartree_guess QUARTREE_GUESS_STACK_BYTES. No call takes more; this is
+     measured, and not proved.
 
    ---- What every call promises ---------------------------------------------------------------------------------------
 
@@ -346,6 +367,15 @@ uint64_t quartree_gap(size_t n, uint32_t poll, const uint32_t *table, size_t cel
    in this one tree. */
 uint64_t quartree_rebuild(size_t n, uint32_t poll, const uint32_t *table, size_t cells, uint16_t *out, size_t room);
 
+/* Rebuilds the tree of a table, or guesses one where no tree has it.
+   Refused, in this order: 1, 2, 3, 4, 5, as quartree_rebuild is, and never by 6.
+   Accepted: the first QUARTREE_LISTING_NUMBERS(n) numbers of out are the standard listing of a tree, and the figure is
+   256 * x + y, x being the tree's total gap from the table, and y its origin ('reply-is'). Where a tree has the table,
+   it is that tree, x is 0 and y is QUARTREE_REBUILT ('rebuilt-has'): listing and reply are those of quartree_rebuild.
+   Where none has, which is where quartree_rebuild says 6, the tree is the table's guess, x is above 0 and y is
+   QUARTREE_GUESSED. The call takes QUARTREE_GUESS_STACK_BYTES of stack at most. */
+uint64_t quartree_guess(size_t n, uint32_t poll, const uint32_t *table, size_t cells, uint16_t *out, size_t room);
+
 /* Rebuilds the tree of a table by proposed merges. The length of the list, len, has to be QUARTREE_MERGE_NUMBERS(n).
    Step k names two leaves, at places 2k and 2k+1, and proposes to merge the two subtrees that hold them.
    Refused, in this order: 1, 2 (either input), 3, 4, 5, 12. Where 1 to 5 do not apply, 12 is given exactly when some
@@ -396,7 +426,8 @@ uint64_t quartree_sheet_name(const uint8_t *sheet, size_t len, size_t leaf);
 /* Rebuilds the tree of a sheet. The number alone is returned: 0, or the refusal's.
    Refused, in this order: 13, 1, 14, 3, 15, 16, 6.
    Accepted: the first QUARTREE_LISTING_BYTES(n) bytes of listing are the standard listing of the only tree that has
-   the sheet's table, two bytes a number, low byte first. */
+   the sheet's table, two bytes a number, low byte first. This call never guesses; quartree_sheet_table and
+   quartree_guess together do. */
 uint32_t quartree_rebuild_sheet(const uint8_t *sheet, size_t sheet_len, uint8_t *listing, size_t listing_len);
 
 /* ---- Texts ----------------------------------------------------------------------------------------------------------
