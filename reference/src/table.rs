@@ -80,6 +80,11 @@ pub fn by_far_sides(tree: &Tree) -> Vec<u32> {
     cells
 }
 
+/// The cells above the diagonal, row by row.
+pub fn above_diagonal(n: usize) -> impl Iterator<Item = (usize, usize)> {
+    (0..n).flat_map(move |i| (i + 1..n).map(move |j| (i, j)))
+}
+
 /// Writes a cell and its mirror cell.
 pub fn put(cells: &mut [u32], n: usize, (i, j): (usize, usize), value: u32) {
     cells[i * n + j] = value;
