@@ -436,16 +436,15 @@ fn look_at_rebuilt(
     agreed(n > Every::LEAVES || every.listing_with(poll, table) == found, "search through every tree")
 }
 
-/// The merges by smallest means leave the tree in either case, since those of a tree's table are eligible, and the total
-/// gap is 0 for a rebuilt tree alone.
+/// The merges by smallest means end in the tree also where it is rebuilt, since those of its table are eligible. Each
+/// cell's expected value at the merge that brings its leaves together is the tree's cell, so the gaps met at the merges
+/// add up to the total too.
 fn look_at_guess(n: usize, poll: u32, table: &[u32], due: &Answer<Guess>) -> Result<(), String> {
     let Ok(Guess { record, total }) = due else { return Ok(()) };
-    let merged = guess::guessed_tree(n, poll, table).standard_listing();
-    agreed(record.listing == merged, "merges by smallest means")?;
-    let twice: u64 = table::gap(n, poll, table, &record.listing, n * n)
-        .map_or(0, |gaps| gaps.iter().map(|gap| gap.unsigned_abs()).sum());
-    agreed(twice == 2 * total, "total gap")?;
-    agreed((*total == 0) == (record.origin == Origin::Rebuilt), "guess with the table")
+    let (tree, met) = guess::merged_by_means(n, poll, table);
+    agreed(tree.standard_listing() == record.listing, "merges by smallest means")?;
+    agreed(met == *total, "gaps met at the merges")?;
+    agreed((*total == 0) == (record.origin == Origin::Rebuilt), "guess of a tree with the table")
 }
 
 fn look_at_rebuilt_sheet(

@@ -435,7 +435,7 @@ pub const ROUGH: usize = 9;
 /// means are often equal, of any value, of 0 and the greatest, or all alike.
 pub fn table_of_roughness(kind: usize, n: usize, chance: &mut Chance) -> Vec<u32> {
     let tree = any_tree(n, chance);
-    let mut cells = of_tree(&tree);
+    let mut cells = if kind < 5 { of_tree(&tree) } else { vec![0; n * n] };
     let off = chance.of(&[1, 1, 2, n]);
     match kind {
         0 | 1 => {

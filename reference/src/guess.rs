@@ -47,13 +47,15 @@ fn nearest(merging: &Merging) -> Option<[LeafSet; 2]> {
     means.min_by(order).map(|(_, pair)| pair)
 }
 
-/// The tree that n−1 such merges leave.
-pub fn guessed_tree(n: usize, poll: u32, table: &[u32]) -> Tree {
+/// The tree that n−1 such merges leave, and the sum of the sizes of the gaps met at them.
+pub fn merged_by_means(n: usize, poll: u32, table: &[u32]) -> (Tree, u64) {
     let mut merging = Merging::start(n, poll, table);
+    let mut met = 0;
     while let Some(pair) = nearest(&merging) {
+        met += merging.gap_sizes(pair).sum::<u64>();
         merging.merge(pair);
     }
-    merging.tree().expect("n−1 merges leave one tree")
+    (merging.tree().expect("n−1 merges leave one tree"), met)
 }
 
 /// The total gap between a table and a tree: the sum over i < j of the gap's size.
@@ -80,7 +82,8 @@ impl Guess {
 pub fn guess(n: usize, poll: u32, table: &[u32], room: usize, chance: &mut Chance) -> Answer<Guess> {
     match rebuild(n, poll, table, room, chance) {
         Err(Refusal::NoTree) => {
-            let listing = guessed_tree(n, poll, table).standard_listing();
+            let (tree, _) = merged_by_means(n, poll, table);
+            let listing = tree.standard_listing();
             let total = total_gap(n, poll, table, &listing);
             Ok(Guess { record: TreeRecord { leaves: n, listing, origin: Origin::Guessed }, total })
         }

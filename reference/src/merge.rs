@@ -35,22 +35,28 @@ impl<'a> Merging<'a> {
         u64::from(self.table[i * self.n + j])
     }
 
-    /// The expected value of cell (i,j) between two subtrees.
-    fn expected(&self, [first, second]: [LeafSet; 2], i: usize, j: usize) -> u64 {
-        let outside = pairs_of(self.n - size(first) - size(second));
+    /// The expected value of cell (i,j), which depends on the pairs of leaves outside the two subtrees.
+    fn expected(&self, outside: u64, i: usize, j: usize) -> u64 {
         self.times * (outside + self.m[i] + self.m[j])
+    }
+
+    /// How many pairs there are of leaves outside two subtrees.
+    fn outside(&self, first: LeafSet, second: LeafSet) -> u64 {
+        pairs_of(self.n - size(first) - size(second))
     }
 
     /// Every pair of leaves, one from each subtree, is tested.
     pub fn eligible(&self, first: LeafSet, second: LeafSet) -> bool {
-        let fits = |i: usize, j: usize| self.cell(i, j) == self.expected([first, second], i, j);
+        let outside = self.outside(first, second);
+        let fits = |i: usize, j: usize| self.cell(i, j) == self.expected(outside, i, j);
         members(first).all(|i| members(second).all(|j| fits(i, j)))
     }
 
     /// The sizes of the gaps of two subtrees' cells from their expected values.
-    pub fn gap_sizes(&self, pair: [LeafSet; 2]) -> impl Iterator<Item = u64> + '_ {
-        let size = move |i: usize, j: usize| self.cell(i, j).abs_diff(self.expected(pair, i, j));
-        members(pair[0]).flat_map(move |i| members(pair[1]).map(move |j| size(i, j)))
+    pub fn gap_sizes(&self, [first, second]: [LeafSet; 2]) -> impl Iterator<Item = u64> + '_ {
+        let outside = self.outside(first, second);
+        let size = move |i: usize, j: usize| self.cell(i, j).abs_diff(self.expected(outside, i, j));
+        members(first).flat_map(move |i| members(second).map(move |j| size(i, j)))
     }
 
     /// Every pair of different subtrees that are left.

@@ -76,12 +76,12 @@ pub fn cases_of_tree(tree: &Tree, chance: &mut Chance) -> Vec<Case> {
     cases
 }
 
-/// Guesses of rough tables of every kind with many leaves, of polls' tables up to 32.
+/// Guesses of rough tables of every kind with 16 to 64 leaves, of polls' tables too, and of some kinds with 128.
 pub fn rough_guesses() -> Vec<Case> {
     let mut chance = Chance::new(128, 128);
     let mut cases = Vec::new();
-    for (n, poll) in [(16, COUNTS), (32, COUNTS), (32, POLL), (64, COUNTS), (127, COUNTS), (128, COUNTS)] {
-        for kind in 0..draw::ROUGH {
+    for (n, poll) in [(16, COUNTS), (32, COUNTS), (32, POLL), (64, COUNTS), (128, COUNTS)] {
+        for kind in (0..draw::ROUGH).filter(|kind| n < 128 || [0, 6, 7].contains(kind)) {
             let table = draw::table_of_roughness(kind, n, &mut chance);
             cases.push(Case::Guess { n, poll, table, room: 2 * (n - 2) + kind });
         }
