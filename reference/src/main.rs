@@ -101,8 +101,12 @@ impl Comparison {
             for kind in Kind::ALL {
                 let mut chance = Chance::new(seed, kind as u64);
                 let case = draw::any_case(kind, &mut chance);
-                self.put(&case, &format!("seed {seed}"), &mut chance)
-                    .map_err(|difference| format!("{difference}\nrepeat with: reference 1 {seed}"))?;
+                let origin = format!("seed {seed}");
+                let put = match kind {
+                    Kind::Guess => self.put_and_hand_on(&case, &origin, &mut chance),
+                    _ => self.put(&case, &origin, &mut chance).map(drop),
+                };
+                put.map_err(|difference| format!("{difference}\nrepeat with: reference 1 {seed}"))?;
             }
         }
         self.summary(rounds, seed, start)
