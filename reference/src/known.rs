@@ -198,7 +198,7 @@ fn rebuilds() -> Vec<Known> {
     ]
 }
 
-/// Worked guesses. P2, P5 and P6 are rebuilt by nobody and guessed; what has a tree gets it, marked rebuilt, and no gap.
+/// Worked guesses. P2, P5 and P6, which no tree has, are guessed; a table that has a tree gets it, marked rebuilt.
 fn guesses() -> Vec<Known> {
     let (n, top) = (128, u32::MAX);
     let case = |poll, n: usize, table, room| Case::Guess { n, poll, table, room };

@@ -2,8 +2,9 @@
 //!
 //! `reference [N [SEED]]` compares, in this order: the paper's own cases; every tree of 3 to 6 leaves, its records also
 //! handed from one operation to the next, and one of every shape of 32, 127 and 128; the polls of trees' own pairings;
-//! every listing, question, list of proposals and poll of very few, every text of up to six bytes and every text close
-//! to a right one; and N rounds (20,000 if not given) from SEED on (1 if not given), each with one case of every kind.
+//! guesses of small tables and of rough ones; every listing, question, list of proposals and poll of very few, every
+//! text of up to six bytes and every text close to a right one; and N rounds (20,000 if not given) from SEED on (1 if
+//! not given), each with one case of every kind; what these guesses make is handed on.
 //! It also tries demand 3 on the reference's own merging, over every finished list of small tables. The first
 //! difference stops it.
 
@@ -206,8 +207,8 @@ impl Comparison {
         }
     }
 
-    /// Rebuilds the table that a guess was given: 6 exactly where it is marked guessed, else the same tree. And rebuilds
-    /// what the guessed tree itself has for its table: the same listing.
+    /// Rebuilds the table that a guess was given: 6 exactly where it is marked guessed, else the same tree. Then rebuilds
+    /// the table that its tree has: the same listing.
     fn rebuild_guess(
         &mut self,
         n: usize,
