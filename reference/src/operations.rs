@@ -82,7 +82,7 @@ pub fn rough_guesses() -> Vec<Case> {
     let mut cases = Vec::new();
     for (n, poll) in [(16, COUNTS), (32, COUNTS), (32, POLL), (64, COUNTS), (128, COUNTS)] {
         for kind in (0..draw::ROUGH).filter(|kind| n < 128 || [0, 6, 7].contains(kind)) {
-            let table = draw::table_of_roughness(kind, n, &mut chance);
+            let table = table::scaled(&draw::table_of_roughness(kind, n, &mut chance), table::times(poll));
             cases.push(Case::Guess { n, poll, table, room: 2 * (n - 2) + kind });
         }
     }
