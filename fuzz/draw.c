@@ -383,6 +383,36 @@ void scale_table(struct source *source, size_t n, uint32_t word, uint32_t *table
             table[cell] *= 6;
 }
 
+/* Another value for a cell: less or more by so much, and not below 0. */
+static uint32_t cell_off_by(uint32_t cell, uint32_t by, bool less)
+{
+    return less ? cell - (by < cell ? by : cell) : cell + by;
+}
+
+/* Another value for a cell: off by one or by up to 127, or none; 0 or the greatest; or any. */
+static uint32_t rough_cell(struct source *source, size_t kind, uint32_t cell)
+{
+    uint8_t byte = kind < 3 ? take(source) : 0;
+    switch (kind) {
+    case 0:
+        return cell_off_by(cell, byte % 4 / 2, byte % 2 == 1);
+    case 1:
+        return cell_off_by(cell, byte / 2, byte % 2 == 1);
+    case 2:
+        return byte < 128 ? 0 : UINT32_MAX;
+    default:
+        return take_number(source, 4);
+    }
+}
+
+void roughen_table(struct source *source, size_t n, uint32_t *table)
+{
+    uint8_t kind = take(source);
+    for (size_t i = 0; fitted(n) && kind >= 128 && i < n; i++)
+        for (size_t j = i + 1; j < n; j++)
+            put(n, table, i, j, rough_cell(source, kind % 4, table[n * i + j]));
+}
+
 static void damage_step(struct source *source, size_t n, uint16_t *merges)
 {
     size_t step = below(source, QUARTREE_MERGES(n)), other = below(source, QUARTREE_MERGES(n));

@@ -58,6 +58,10 @@ void table_of_merges(size_t n, const uint16_t *merges, uint32_t *table);
 /* Makes a table six times as large where the word for it is that it is a poll's; seldom where it is not. */
 void scale_table(struct source *source, size_t n, uint32_t word, uint32_t *table);
 
+/* Makes a whole table rough, in half of the cases: every cell off by a little or by more, or of 0 or the greatest
+   value, or of any. */
+void roughen_table(struct source *source, size_t n, uint32_t *table);
+
 /* Damage to a whole input, none in most cases: to its elements and then to its length, which is returned. */
 size_t damage_listing(struct source *source, size_t n, uint16_t *listing);
 size_t damage_merges(struct source *source, size_t n, uint16_t *merges);

@@ -9,6 +9,8 @@
 
 #[path = "../reference/src/chance.rs"]
 mod chance;
+#[path = "../reference/src/guess.rs"]
+mod guess;
 #[path = "../reference/src/merge.rs"]
 mod merge;
 #[path = "../reference/src/newick.rs"]

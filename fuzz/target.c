@@ -16,12 +16,12 @@
 
 enum entry {
     CHECK, STANDARDISE, SPLITS, PAIRING, TABLE, GAP, REBUILD, REBUILD_GUIDED, POLL, SHEET_TABLE, SHEET_NAME,
-    REBUILD_SHEET, CHECK_SHEET, EXPORT, IMPORT, RESTANDARDISE, ENTRIES
+    REBUILD_SHEET, CHECK_SHEET, EXPORT, IMPORT, RESTANDARDISE, GUESS, ENTRIES
 };
 
 static const char *const entry_name[ENTRIES] = {
     "check", "standardise", "splits", "pairing", "table", "gap", "rebuild", "rebuild_guided", "poll", "sheet_table",
-    "sheet_name", "rebuild_sheet", "check_sheet", "export", "import", "restandardise"
+    "sheet_name", "rebuild_sheet", "check_sheet", "export", "import", "restandardise", "guess"
 };
 
 /* The reference's entries take what the archive's take. */
@@ -41,6 +41,7 @@ extern __typeof__(quartree_check_sheet) reference_check_sheet;
 extern __typeof__(quartree_export) reference_export;
 extern __typeof__(quartree_import) reference_import;
 extern __typeof__(quartree_restandardise) reference_restandardise;
+extern __typeof__(quartree_guess) reference_guess;
 
 /* A call: the numbers it is given, and the buffers it is lent, inputs in the order of its arguments and then the
    output; but the text of an import, which may be all bytes that are left, is the last. Of a sheet, n is what its
@@ -141,7 +142,7 @@ static void read_gap_call(struct source *source, struct call *call)
     lend_output(source, call, sizeof(int64_t), result_of(n, QUARTREE_TABLE_CELLS(n)));
 }
 
-/* rebuild, rebuild_guided */
+/* rebuild, rebuild_guided, guess */
 static void read_rebuild_call(struct source *source, struct call *call)
 {
     static uint16_t merges[MOST_NUMBERS];
@@ -150,6 +151,8 @@ static void read_rebuild_call(struct source *source, struct call *call)
     draw_merges(source, n, merges);
     table_of_merges(n, merges, table);
     scale_table(source, n, call->word, table);
+    if (call->entry == GUESS)
+        roughen_table(source, n, table);
     cells = damage_table(source, n, table);
     lend_next(call, "table", table, sizeof *table, cells);
     if (call->entry == REBUILD_GUIDED) {
@@ -227,6 +230,7 @@ static void read_call(struct source *source, struct call *call)
         break;
     case REBUILD:
     case REBUILD_GUIDED:
+    case GUESS:
         read_rebuild_call(source, call);
         break;
     case POLL:
@@ -288,6 +292,8 @@ static uint64_t make_call(const struct call *call, enum taker taker)
         return ASK(import, LENT(0), LENT(2), LENT(1));
     case RESTANDARDISE:
         return ASK(restandardise, call->n, call->origin, LENT(0), LENT(1));
+    case GUESS:
+        return ASK(guess, call->n, call->word, LENT(0), LENT(1));
     default:
         return ASK(check_sheet, LENT(0));
     }
@@ -298,7 +304,7 @@ static void print_call(const struct call *call)
     printf("call: quartree_%s, n = %zu", entry_name[call->entry], call->n);
     if (call->entry == SHEET_NAME)
         printf(", leaf = %zu", call->leaf);
-    if (call->entry == GAP || call->entry == REBUILD || call->entry == REBUILD_GUIDED)
+    if (call->entry == GAP || call->entry == REBUILD || call->entry == REBUILD_GUIDED || call->entry == GUESS)
         printf(", poll = %" PRIu32, call->word);
     if (call->entry == RESTANDARDISE)
         printf(", origin = %" PRIu32, call->origin);

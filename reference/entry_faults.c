@@ -15,6 +15,7 @@ uint64_t real_gap(size_t n, uint32_t poll, const uint32_t *table, size_t cells, 
 uint64_t real_rebuild(size_t n, uint32_t poll, const uint32_t *table, size_t cells, uint16_t *out, size_t room);
 uint64_t real_rebuild_guided(size_t n, uint32_t poll, const uint32_t *table, size_t cells, const uint16_t *merges,
                              size_t len, uint16_t *out, size_t room);
+uint64_t real_guess(size_t n, uint32_t poll, const uint32_t *table, size_t cells, uint16_t *out, size_t room);
 uint64_t real_poll(size_t n, const struct quartree_record *records, size_t count, uint32_t *out, size_t room);
 uint64_t real_check_sheet(const uint8_t *sheet, size_t len);
 uint64_t real_sheet_table(const uint8_t *sheet, size_t len, uint32_t *out, size_t room);
@@ -609,5 +610,135 @@ uint64_t quartree_restandardise(size_t n, uint32_t origin, const uint16_t *listi
 {
     uint64_t reply = real_restandardise(n, origin, listing, len, out, room);
     return reply == QUARTREE_REFUSED_OUTPUT_ROOM ? reply | (uint64_t)origin << 8 : reply;
+}
+
+#elif FAULT == 74 /* guess: the origin left out of the figure */
+uint64_t quartree_guess(size_t n, uint32_t poll, const uint32_t *table, size_t cells, uint16_t *out, size_t room)
+{
+    uint64_t reply = real_guess(n, poll, table, cells, out, room);
+    return NUMBER(reply) == QUARTREE_ACCEPTED ? QUARTREE_FIGURE_X(reply) << 16 : reply;
+}
+
+#elif FAULT == 75 /* guess: the total shifted by 8 bits */
+uint64_t quartree_guess(size_t n, uint32_t poll, const uint32_t *table, size_t cells, uint16_t *out, size_t room)
+{
+    uint64_t reply = real_guess(n, poll, table, cells, out, room);
+    uint64_t shifted = (QUARTREE_FIGURE_X(reply) + QUARTREE_FIGURE_Y(reply)) << 8;
+    return NUMBER(reply) == QUARTREE_ACCEPTED ? shifted : reply;
+}
+
+#elif FAULT == 76 /* guess: the total in 32 bits */
+uint64_t quartree_guess(size_t n, uint32_t poll, const uint32_t *table, size_t cells, uint16_t *out, size_t room)
+{
+    uint64_t reply = real_guess(n, poll, table, cells, out, room);
+    return NUMBER(reply) == QUARTREE_ACCEPTED ? reply & 0xFFFFFFFFFFFF : reply;
+}
+
+#elif FAULT == 77 /* guess: the total of all cells, each counted twice */
+uint64_t quartree_guess(size_t n, uint32_t poll, const uint32_t *table, size_t cells, uint16_t *out, size_t room)
+{
+    uint64_t reply = real_guess(n, poll, table, cells, out, room);
+    return NUMBER(reply) == QUARTREE_ACCEPTED ? reply + (QUARTREE_FIGURE_X(reply) << 16) : reply;
+}
+
+#elif FAULT == 78 /* guess: the total told with a tree that has the table, as 1 */
+uint64_t quartree_guess(size_t n, uint32_t poll, const uint32_t *table, size_t cells, uint16_t *out, size_t room)
+{
+    uint64_t reply = real_guess(n, poll, table, cells, out, room);
+    return reply == QUARTREE_ACCEPTED ? 1 << 16 : reply;
+}
+
+#elif FAULT == 79 /* guess: a tree that has the table told as guessed */
+uint64_t quartree_guess(size_t n, uint32_t poll, const uint32_t *table, size_t cells, uint16_t *out, size_t room)
+{
+    uint64_t reply = real_guess(n, poll, table, cells, out, room);
+    return reply == QUARTREE_ACCEPTED ? 256 * QUARTREE_GUESSED : reply;
+}
+
+#elif FAULT == 80 /* guess: every tree told as rebuilt */
+uint64_t quartree_guess(size_t n, uint32_t poll, const uint32_t *table, size_t cells, uint16_t *out, size_t room)
+{
+    uint64_t reply = real_guess(n, poll, table, cells, out, room);
+    return QUARTREE_FIGURE_Y(reply) == QUARTREE_GUESSED && NUMBER(reply) == QUARTREE_ACCEPTED
+               ? reply - 256 * QUARTREE_GUESSED
+               : reply;
+}
+
+#elif FAULT == 81 /* guess: 6 told with a guess */
+uint64_t quartree_guess(size_t n, uint32_t poll, const uint32_t *table, size_t cells, uint16_t *out, size_t room)
+{
+    uint64_t reply = real_guess(n, poll, table, cells, out, room);
+    return NUMBER(reply) == QUARTREE_ACCEPTED && reply > 0 ? QUARTREE_REFUSED_NO_TREE : reply;
+}
+
+#elif FAULT == 82 /* guess: rebuild in its place */
+uint64_t quartree_guess(size_t n, uint32_t poll, const uint32_t *table, size_t cells, uint16_t *out, size_t room)
+{
+    return real_rebuild(n, poll, table, cells, out, room);
+}
+
+#elif FAULT == 83 /* guess: the output written although the halves are unequal */
+uint64_t quartree_guess(size_t n, uint32_t poll, const uint32_t *table, size_t cells, uint16_t *out, size_t room)
+{
+    uint64_t reply = real_guess(n, poll, table, cells, out, room);
+    if (NUMBER(reply) == QUARTREE_REFUSED_HALVES)
+        out[0] = 1;
+    return reply;
+}
+
+#elif FAULT == 84 /* guess: the number behind the result cleared */
+uint64_t quartree_guess(size_t n, uint32_t poll, const uint32_t *table, size_t cells, uint16_t *out, size_t room)
+{
+    uint64_t reply = real_guess(n, poll, table, cells, out, room);
+    if (NUMBER(reply) == QUARTREE_ACCEPTED && room > QUARTREE_LISTING_NUMBERS(n))
+        out[QUARTREE_LISTING_NUMBERS(n)] = 0;
+    return reply;
+}
+
+#elif FAULT == 85 /* guess: the first row's children exchanged in a guess */
+uint64_t quartree_guess(size_t n, uint32_t poll, const uint32_t *table, size_t cells, uint16_t *out, size_t room)
+{
+    uint64_t reply = real_guess(n, poll, table, cells, out, room);
+    if (NUMBER(reply) == QUARTREE_ACCEPTED && reply > 0) {
+        uint16_t first = out[0];
+        out[0] = out[1];
+        out[1] = first;
+    }
+    return reply;
+}
+
+#elif FAULT == 86 /* guess: the word for the table ignored */
+uint64_t quartree_guess(size_t n, uint32_t poll, const uint32_t *table, size_t cells, uint16_t *out, size_t room)
+{
+    (void)poll;
+    return real_guess(n, QUARTREE_COUNTS, table, cells, out, room);
+}
+
+#elif FAULT == 87 /* guess: the word for the table in 8 bits */
+uint64_t quartree_guess(size_t n, uint32_t poll, const uint32_t *table, size_t cells, uint16_t *out, size_t room)
+{
+    return real_guess(n, (uint8_t)poll, table, cells, out, room);
+}
+
+#elif FAULT == 88 /* guess: the length of the table in 16 bits */
+uint64_t quartree_guess(size_t n, uint32_t poll, const uint32_t *table, size_t cells, uint16_t *out, size_t room)
+{
+    return real_guess(n, poll, table, (uint16_t)cells, out, room);
+}
+
+#elif FAULT == 89 /* guess: the room in 16 bits */
+uint64_t quartree_guess(size_t n, uint32_t poll, const uint32_t *table, size_t cells, uint16_t *out, size_t room)
+{
+    return real_guess(n, poll, table, cells, out, (uint16_t)room);
+}
+
+#elif FAULT == 90 /* guess: the caller's cells cut to 24 bits */
+uint64_t quartree_guess(size_t n, uint32_t poll, const uint32_t *table, size_t cells, uint16_t *out, size_t room)
+{
+    uint64_t reply = real_guess(n, poll, table, cells, out, room);
+    uint32_t *lent = (uint32_t *)(uintptr_t)table;
+    for (size_t cell = 0; NUMBER(reply) == QUARTREE_ACCEPTED && cell < cells; cell++)
+        lent[cell] &= 0xFFFFFF;
+    return reply;
 }
 #endif

@@ -5,6 +5,7 @@
 
 use crate::chance::Chance;
 use crate::every::Every;
+use crate::guess::{self, Guess};
 use crate::origin::{self, Origin, TreeRecord};
 use crate::part::{self, Cell, Lent};
 use crate::poll::{self, Record};
@@ -25,6 +26,7 @@ pub enum Kind {
     Gap,
     Rebuild,
     Guided,
+    Guess,
     Poll,
     CheckSheet,
     SheetTable,
@@ -35,7 +37,7 @@ pub enum Kind {
 }
 
 impl Kind {
-    pub const ALL: [Kind; 16] = [
+    pub const ALL: [Kind; 17] = [
         Kind::Check,
         Kind::Standardise,
         Kind::Restandardise,
@@ -45,6 +47,7 @@ impl Kind {
         Kind::Gap,
         Kind::Rebuild,
         Kind::Guided,
+        Kind::Guess,
         Kind::Poll,
         Kind::CheckSheet,
         Kind::SheetTable,
@@ -65,6 +68,7 @@ impl Kind {
             Kind::Gap => "gap",
             Kind::Rebuild => "rebuild",
             Kind::Guided => "rebuild_guided",
+            Kind::Guess => "guess",
             Kind::Poll => "poll",
             Kind::CheckSheet => "check_sheet",
             Kind::SheetTable => "sheet_table",
@@ -84,6 +88,7 @@ impl Kind {
             Kind::Gap => &[1, 2, 3, 7, 8, 4, 5],
             Kind::Rebuild => &[1, 2, 3, 4, 5, 6],
             Kind::Guided => &[1, 2, 3, 4, 5, 12],
+            Kind::Guess => &[1, 2, 3, 4, 5],
             Kind::Poll => &[1, 2, 3, 10, 11],
             Kind::CheckSheet => &[13, 1, 14, 15, 16],
             Kind::SheetTable => &[13, 1, 14, 3, 15, 16],
@@ -107,6 +112,7 @@ pub enum Case {
     Gap { n: usize, poll: u32, table: Vec<u32>, listing: Vec<u16>, room: usize },
     Rebuild { n: usize, poll: u32, table: Vec<u32>, room: usize },
     Guided { n: usize, poll: u32, table: Vec<u32>, merges: Vec<u16>, room: usize },
+    Guess { n: usize, poll: u32, table: Vec<u32>, room: usize },
     Poll { n: usize, records: Vec<Record>, room: usize },
     CheckSheet { sheet: Vec<u8> },
     SheetTable { sheet: Vec<u8>, room: usize },
@@ -185,6 +191,7 @@ impl Case {
             Case::Gap { .. } => Kind::Gap,
             Case::Rebuild { .. } => Kind::Rebuild,
             Case::Guided { .. } => Kind::Guided,
+            Case::Guess { .. } => Kind::Guess,
             Case::Poll { .. } => Kind::Poll,
             Case::CheckSheet { .. } => Kind::CheckSheet,
             Case::SheetTable { .. } => Kind::SheetTable,
@@ -281,6 +288,15 @@ impl Case {
                 table.unchanged()?;
                 merges.unchanged()?;
                 settle_record(got, due, &out)
+            }
+            Case::Guess { n, poll, table, room } => {
+                let due = guess::guess(*n, *poll, table, *room, chance);
+                look_at_guess(*n, *poll, table, &due)?;
+                let mut table = Lent::input("table", table, chance);
+                let mut out = Lent::output("standard listing", *room, chance);
+                let got = part::guess(*n, *poll, &mut table, &mut out);
+                table.unchanged()?;
+                settle_output(got, due.map(|guess| (guess.figure(), guess.record.listing)), &out)
             }
             Case::Poll { n, records, room } => {
                 let due = poll::poll(*n, records, *room);
@@ -418,6 +434,17 @@ fn look_at_rebuilt(
     let (_, other) = merge::finished_list(n, poll, table, chance);
     agreed(other.map(|tree| tree.standard_listing()).as_ref() == found, "merges in another order")?;
     agreed(n > Every::LEAVES || every.listing_with(poll, table) == found, "search through every tree")
+}
+
+/// The merges by smallest means end in the tree also where it is rebuilt, since those of its table are eligible. Each
+/// cell's expected value at the merge that brings its leaves together is the tree's cell, so the gaps met at the merges
+/// add up to the total too.
+fn look_at_guess(n: usize, poll: u32, table: &[u32], due: &Answer<Guess>) -> Result<(), String> {
+    let Ok(Guess { record, total }) = due else { return Ok(()) };
+    let (tree, met) = guess::merged_by_means(n, poll, table);
+    agreed(tree.standard_listing() == record.listing, "merges by smallest means")?;
+    agreed(met == *total, "gaps met at the merges")?;
+    agreed((*total == 0) == (record.origin == Origin::Rebuilt), "guess of a tree with the table")
 }
 
 fn look_at_rebuilt_sheet(

@@ -8,7 +8,7 @@ use crate::chance::Chance;
 use crate::merge::finished_list;
 use crate::part::Cell;
 use crate::poll::{poll, records_of, Record, LAST_CODE};
-use crate::table::{of_tree, pairs_of, put, quartets, scaled, times, COUNTS, POLL};
+use crate::table::{above_diagonal, add_quartet, of_tree, pairs_of, put, quartets, scaled, times, COUNTS, POLL};
 use crate::texts;
 use crate::tree::{members, single, LeafSet, Tree};
 use std::collections::HashMap;
@@ -47,18 +47,22 @@ pub fn any_case(kind: Kind, chance: &mut Chance) -> Case {
             Case::Table { n, listing, room: lent_room(table_length(n, chance), chance) }
         }
         Kind::Gap => {
-            let (n, poll, table) = lent_table(chance);
+            let (n, poll, table) = lent_table(any_table, chance);
             let listing = lent_listing(n, chance);
             Case::Gap { n, poll, table, listing, room: lent_room(table_length(n, chance), chance) }
         }
         Kind::Rebuild => {
-            let (n, poll, table) = lent_table(chance);
+            let (n, poll, table) = lent_table(any_table, chance);
             Case::Rebuild { n, poll, table, room: lent_room(listing_length(n, chance), chance) }
         }
         Kind::Guided => {
-            let (n, poll, table) = lent_table(chance);
+            let (n, poll, table) = lent_table(any_table, chance);
             let merges = lent_merges(n, poll, &table, chance);
             Case::Guided { n, poll, table, merges, room: lent_room(listing_length(n, chance), chance) }
+        }
+        Kind::Guess => {
+            let (n, poll, table) = lent_table(rough_table, chance);
+            Case::Guess { n, poll, table, room: lent_room(listing_length(n, chance), chance) }
         }
         Kind::Poll => {
             let n = lent_poll_count(chance);
@@ -349,11 +353,7 @@ fn two_leaves(n: usize, chance: &mut Chance) -> (usize, usize) {
 }
 
 fn fill(cells: &mut [u32], n: usize, mut value: impl FnMut() -> u32) {
-    for i in 0..n {
-        for j in i + 1..n {
-            put(cells, n, (i, j), value());
-        }
-    }
+    above_diagonal(n).for_each(|cell| put(cells, n, cell, value()));
 }
 
 /// Another value for a cell: close to it, or equal to it in its low bits.
@@ -427,10 +427,65 @@ fn mix_in(cells: &mut [u32], n: usize, chance: &mut Chance) {
     }
 }
 
+/// How many kinds of rough tables there are to draw from.
+pub const ROUGH: usize = 9;
+
+/// A table that hardly any tree has, with a zero diagonal and equal halves. A tree's with every cell or some cells off,
+/// one counted from quartets of which some are flipped, or one mixed from two trees; or cells of few values, so that
+/// means are often equal, of any value, of 0 and the greatest, or all alike.
+pub fn table_of_roughness(kind: usize, n: usize, chance: &mut Chance) -> Vec<u32> {
+    let tree = any_tree(n, chance);
+    let mut cells = if kind < 5 { of_tree(&tree) } else { vec![0; n * n] };
+    let off = chance.of(&[1, 1, 2, n]);
+    match kind {
+        0 | 1 => {
+            for (i, j) in above_diagonal(n) {
+                let more = cells[i * n + j] + chance.between(0, 2 * off) as u32;
+                put(&mut cells, n, (i, j), more.saturating_sub(off as u32));
+            }
+        }
+        2 => (0..chance.between(1, n)).for_each(|_| change_cell(&mut cells, n, chance)),
+        3 if n <= 12 => return with_flipped_quartets(&tree, chance),
+        3 | 4 => mix_in(&mut cells, n, chance),
+        5 => fill(&mut cells, n, || chance.below(off + 1) as u32),
+        6 => fill(&mut cells, n, || u32::any(chance)),
+        7 => fill(&mut cells, n, || chance.of(&[0, u32::MAX])),
+        _ => {
+            let value = chance.of(&[0, 1, u32::MAX, u32::MAX]);
+            fill(&mut cells, n, || value);
+        }
+    }
+    cells
+}
+
+/// A rough table of any kind, now and then one of the others.
+fn rough_table(n: usize, chance: &mut Chance) -> Vec<u32> {
+    match chance.below(ROUGH + 3) {
+        kind if kind < ROUGH => table_of_roughness(kind, n, chance),
+        _ => any_table(n, chance),
+    }
+}
+
+/// The table counted from a tree's quartets, of which every fifth or so has any pairing.
+fn with_flipped_quartets(tree: &Tree, chance: &mut Chance) -> Vec<u32> {
+    let n = tree.leaves;
+    let mut cells = vec![0; n * n];
+    for four in quartets(n) {
+        let pairing = if chance.one_in(5) { chance.below(3) as u8 } else { tree.pairing(four) };
+        add_quartet(&mut cells, n, four, pairing, 1);
+    }
+    cells
+}
+
 /// A table that is lent as a poll's: six times a tree's or one close to it, mostly; else that with a cell changed, a
 /// poll's with a tie or more, or one of counts.
 pub fn any_polled_table(n: usize, chance: &mut Chance) -> Vec<u32> {
-    let counts = any_table(n, chance);
+    polled_table(any_table, n, chance)
+}
+
+/// The same with the tables of counts from another drawing.
+fn polled_table(drawn: Drawing, n: usize, chance: &mut Chance) -> Vec<u32> {
+    let counts = drawn(n, chance);
     let mut cells = scaled(&counts, times(POLL));
     match chance.below(8) {
         0 => change_cell(&mut cells, n, chance),
@@ -459,14 +514,17 @@ fn lent_word(chance: &mut Chance) -> u32 {
     }
 }
 
+/// A way of drawing tables of counts.
+type Drawing = fn(usize, &mut Chance) -> Vec<u32>;
+
 /// A table with its leaf count and the caller's word; now and then the word is wrong.
-fn lent_table(chance: &mut Chance) -> (usize, u32, Vec<u32>) {
+fn lent_table(drawn: Drawing, chance: &mut Chance) -> (usize, u32, Vec<u32>) {
     let poll = lent_word(chance);
     let n = if poll == COUNTS { lent_count(chance) } else { lent_poll_count(chance) };
     let mut cells = match poll {
         _ if !is_good(n) => vec![0; table_length(n, chance)],
-        COUNTS if chance.below(40) > 0 => any_table(n, chance),
-        _ => any_polled_table(n, chance),
+        COUNTS if chance.below(40) > 0 => drawn(n, chance),
+        _ => polled_table(drawn, n, chance),
     };
     if is_good(n) && chance.one_in(8) {
         for _ in 0..chance.between(1, 2) {
@@ -630,11 +688,10 @@ fn any_names(n: usize, chance: &mut Chance) -> Vec<Vec<u8>> {
 }
 
 fn parts(n: usize, table: &[u32], chance: &mut Chance) -> Parts {
-    let above = (0..n).flat_map(|i| (i + 1..n).map(move |j| (i, j)));
     Parts {
         names: any_names(n, chance),
         left_over: Vec::new(),
-        cells: above.map(|(i, j)| table[i * n + j] as u16).collect(),
+        cells: above_diagonal(n).map(|(i, j)| table[i * n + j] as u16).collect(),
         count: n as u16,
         offset: None,
         ending: [0x51, 0x54],

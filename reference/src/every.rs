@@ -7,6 +7,7 @@
 use crate::chance::Chance;
 use crate::draw;
 use crate::merge::Merging;
+use crate::small::every_table;
 use crate::table::{self, COUNTS, POLL};
 use crate::tree::{LeafSet, Tree};
 use std::collections::{BTreeSet, HashMap, HashSet};
@@ -97,7 +98,7 @@ impl Every {
         for tree in Tree::every(n) {
             let own = table::scaled(&table::of_tree(&tree), times);
             self.try_table(n, poll, &own, tried)?;
-            for (i, j) in above_diagonal(n) {
+            for (i, j) in table::above_diagonal(n) {
                 for value in 0..=times * (table::pairs_of(n - 2) as u32 + 1) {
                     let mut changed = own.clone();
                     table::put(&mut changed, n, (i, j), value);
@@ -110,16 +111,7 @@ impl Every {
 
     /// All tables with a zero diagonal and equal halves whose other cells are among these.
     fn try_all_with(&self, n: usize, poll: u32, values: &[u32], tried: &mut Tried) -> Result<(), String> {
-        let places = above_diagonal(n);
-        for mut code in 0..values.len().pow(places.len() as u32) {
-            let mut cells = vec![0; n * n];
-            for &place in &places {
-                table::put(&mut cells, n, place, values[code % values.len()]);
-                code /= values.len();
-            }
-            self.try_table(n, poll, &cells, tried)?;
-        }
-        Ok(())
+        every_table(n, values).try_for_each(|cells| self.try_table(n, poll, &cells, tried))
     }
 }
 
@@ -142,9 +134,4 @@ impl Ends {
             self.follow(next);
         }
     }
-}
-
-/// The cells above the diagonal, row by row.
-fn above_diagonal(n: usize) -> Vec<(usize, usize)> {
-    (0..n).flat_map(|i| (i + 1..n).map(move |j| (i, j))).collect()
 }

@@ -22,6 +22,7 @@ pub enum Due {
 pub const REBUILT: u64 = 0;
 const LISTED: u64 = 1;
 const IMPORTED: u64 = 2;
+pub const GUESSED: u64 = 3;
 
 pub struct Known {
     pub name: &'static str,
@@ -135,6 +136,7 @@ fn p7_poll() -> Vec<Record> {
 /// Every known case.
 pub fn known_cases() -> Vec<Known> {
     let mut cases = rebuilds();
+    cases.extend(guesses());
     cases.extend(listings());
     cases.extend(records());
     cases.extend(tables());
@@ -193,6 +195,62 @@ fn rebuilds() -> Vec<Known> {
             case: Case::Rebuild { n: 4, poll: COUNTS, table: table(4, &[], 0), room: 3 },
             due: Due::Refused(3, 0),
         },
+    ]
+}
+
+/// Worked guesses. P2, P5 and P6, which no tree has, are guessed; a table that has a tree gets it, marked rebuilt.
+fn guesses() -> Vec<Known> {
+    let (n, top) = (128, u32::MAX);
+    let case = |poll, n: usize, table, room| Case::Guess { n, poll, table, room };
+    let exact = |name, n, table, listing: &[u16]| Known {
+        name,
+        case: case(COUNTS, n, table, 2 * (n - 2)),
+        due: Due::Written(REBUILT, wide(listing)),
+    };
+    let guessed = |name, poll, n, table, listing: &[u16], total: u64| Known {
+        name,
+        case: case(poll, n, table, 2 * n),
+        due: Due::Written(GUESSED + 256 * total, wide(listing)),
+    };
+    let refused = |name, n, table, room, number, figure| Known {
+        name,
+        case: case(COUNTS, n, table, room),
+        due: Due::Refused(number, figure),
+    };
+    let mut filled = table(6, &[], 0);
+    filled[1] = 1;
+    filled[5 * 6 + 5] = top;
+    let mut unequal = table(6, &[], 7);
+    unequal[5 * 6 + 1] = 1;
+    vec![
+        exact("P1 guessed", 3, table(3, &[], 0), &[1, 2]),
+        exact("P3 guessed", 4, table(4, &[(0, 1, 1), (2, 3, 1)], 0), &[2, 3, 1, 4]),
+        exact("P4 guessed", 4, table(4, &[(0, 2, 1), (1, 3, 1)], 0), &[1, 3, 4, 2]),
+        exact("P7 guessed", 5, p7(), &P7_LISTING),
+        exact("P8 guessed", 6, table(6, &[(0, 1, 6), (2, 3, 6), (4, 5, 6)], 1), &[2, 3, 4, 5, 6, 7, 1, 8]),
+        guessed("P2 guessed", COUNTS, 3, table(3, &[(0, 1, 1)], 0), &[1, 2], 1),
+        guessed("P5 guessed", COUNTS, 4, table(4, &[], 0), &[2, 3, 1, 4], 2),
+        guessed("P6 guessed", COUNTS, 4, table(4, &[(0, 1, 1)], 0), &[2, 3, 1, 4], 1),
+        guessed("two cells of leaf 2", COUNTS, 4, table(4, &[(0, 2, 1), (1, 2, 1)], 0), &[1, 3, 4, 2], 2),
+        guessed("five leaves and zeros", COUNTS, 5, table(5, &[], 0), &P7_LISTING, 10),
+        guessed("five leaves and zeros, a poll's", POLL, 5, table(5, &[], 0), &P7_LISTING, 60),
+        guessed("P7's table taken for a poll's", POLL, 5, p7(), &P7_LISTING, 50),
+        guessed(
+            "three cells",
+            COUNTS,
+            3,
+            table(3, &[(0, 1, 5), (0, 2, 7), (1, 2, top)], 0),
+            &[1, 2],
+            12 + u64::from(top),
+        ),
+        Known {
+            name: "the greatest total",
+            case: case(COUNTS, n, table(n, &[], top), 2 * n),
+            due: Due::Cells(GUESSED + 256 * (8_128 * u64::from(top) - 2 * 10_668_000), vec![]),
+        },
+        refused("the diagonal before the halves of a guess", 6, filled, 8, 4, 5),
+        refused("the first unequal halves of a guess", 6, unequal, 8, 5, 256 + 5),
+        refused("a short output for a guess", 4, table(4, &[], 0), 3, 3, 0),
     ]
 }
 
@@ -306,7 +364,8 @@ fn counts() -> Vec<Known> {
             Case::Table { n, listing: listing.clone(), room },
             Case::Gap { n, poll: COUNTS, table: table.clone(), listing, room },
             Case::Rebuild { n, poll: COUNTS, table: table.clone(), room },
-            Case::Guided { n, poll: COUNTS, table, merges, room },
+            Case::Guided { n, poll: COUNTS, table: table.clone(), merges, room },
+            Case::Guess { n, poll: COUNTS, table, room },
             Case::CheckSheet { sheet: trailer(n as u16, 0) },
             Case::SheetTable { sheet: trailer(n as u16, 0), room },
             Case::SheetName { sheet: trailer(n as u16, 0), leaf: 0 },
@@ -351,6 +410,7 @@ fn lengths() -> Vec<Known> {
         Case::Rebuild { n, poll: COUNTS, table: longer(&table), room: 6 },
         Case::Guided { n, poll: COUNTS, table: longer(&table), merges: merges.clone(), room: 6 },
         Case::Guided { n, poll: COUNTS, table: table.clone(), merges: longer(&merges), room: 6 },
+        Case::Guess { n, poll: COUNTS, table: longer(&table), room: 6 },
         Case::Poll { n, records: longer(&p7_poll()), room: 25 },
         Case::Export { sheet: PAPER_SHEET.into(), listing: longer(&listing), room: P7_TEXT.len() },
     ];
@@ -374,7 +434,8 @@ fn lengths() -> Vec<Known> {
         (Case::Table { n, listing: listing.clone(), room: FAR }, Due::Written(0, cells.clone())),
         (Case::Gap { n, poll: COUNTS, table: table.clone(), listing, room: FAR }, Due::Written(0, vec![0; 25])),
         (Case::Rebuild { n, poll: COUNTS, table: table.clone(), room: FAR }, Due::Written(REBUILT, rows.clone())),
-        (Case::Guided { n, poll: COUNTS, table, merges, room: FAR }, Due::Written(REBUILT, rows)),
+        (Case::Guided { n, poll: COUNTS, table, merges, room: FAR }, Due::Written(REBUILT, rows.clone())),
+        (Case::Guess { n, poll: COUNTS, table: vec![0; 25], room: FAR }, Due::Written(GUESSED + 256 * 10, rows)),
         (Case::Poll { n, records: p7_poll(), room: FAR }, Due::Written(0, sixths)),
         (Case::SheetTable { sheet: PAPER_SHEET.into(), room: FAR }, Due::Written(5, cells)),
         (Case::RebuildSheet { sheet: PAPER_SHEET.into(), room: FAR }, Due::Written(0, bytes)),
@@ -447,6 +508,7 @@ fn polled_tables() -> Vec<Known> {
         let gaps = Case::Gap { n, poll, table: table.clone(), listing: P7_LISTING.into(), room: 25 };
         cases.push((gaps, Due::Written(0, vec![0; 25])));
         cases.push((Case::Guided { n, poll, table: table.clone(), merges: merges.clone(), room }, rebuilt()));
+        cases.push((Case::Guess { n, poll, table: table.clone(), room }, rebuilt()));
         cases.push((Case::Rebuild { n, poll, table, room }, rebuilt()));
         cases.push((Case::Rebuild { n, poll, table: p7(), room }, Due::Refused(6, 0)));
     }
@@ -469,6 +531,7 @@ fn polled_counts() -> Vec<Known> {
             let (listing, table, merges) = (comb(n), vec![0; cells], vec![0; 2 * (n - 1)]);
             cases.push((Case::Gap { n, poll: POLL, table: table.clone(), listing, room: n * n }, Due::Refused(1, 0)));
             cases.push((Case::Rebuild { n, poll: POLL, table: table.clone(), room: 2 * n }, Due::Refused(1, 0)));
+            cases.push((Case::Guess { n, poll: POLL, table: table.clone(), room: 2 * n }, Due::Refused(1, 0)));
             cases.push((Case::Guided { n, poll: POLL, table, merges, room: 2 * n }, Due::Refused(1, 0)));
         }
     }

@@ -2,8 +2,9 @@
 //!
 //! `reference [N [SEED]]` compares, in this order: the paper's own cases; every tree of 3 to 6 leaves, its records also
 //! handed from one operation to the next, and one of every shape of 32, 127 and 128; the polls of trees' own pairings;
-//! every listing, question, list of proposals and poll of very few, every text of up to six bytes and every text close
-//! to a right one; and N rounds (20,000 if not given) from SEED on (1 if not given), each with one case of every kind.
+//! guesses of small tables and of rough ones; every listing, question, list of proposals and poll of very few, every
+//! text of up to six bytes and every text close to a right one; and N rounds (20,000 if not given) from SEED on (1 if
+//! not given), each with one case of every kind; what these guesses make is handed on.
 //! It also tries demand 3 on the reference's own merging, over every finished list of small tables. The first
 //! difference stops it.
 
@@ -11,6 +12,7 @@ mod cases;
 mod chance;
 mod draw;
 mod every;
+mod guess;
 mod known;
 mod merge;
 mod newick;
@@ -26,13 +28,14 @@ mod texts;
 mod tree;
 mod watch;
 
-use cases::{Case, Kind};
+use cases::{Case, Kind, Outcome};
 use chance::Chance;
 use every::Every;
-use known::{known_cases, Due, Known, REBUILT};
+use known::{known_cases, Due, Known, GUESSED, REBUILT};
 use std::collections::BTreeMap;
 use std::process::exit;
 use std::time::Instant;
+use table::{above_diagonal, scaled, times};
 use tree::Tree;
 
 /// How many rounds are run when no number is given.
@@ -88,6 +91,7 @@ impl Comparison {
         self.every_tree()?;
         self.large_trees()?;
         self.own_polls()?;
+        self.guesses()?;
         self.every_input()?;
         if !self.noted {
             let tried = self.every.try_demand_3(DRAWN_TABLES)?;
@@ -98,15 +102,19 @@ impl Comparison {
             for kind in Kind::ALL {
                 let mut chance = Chance::new(seed, kind as u64);
                 let case = draw::any_case(kind, &mut chance);
-                self.put(&case, &format!("seed {seed}"), &mut chance)
-                    .map_err(|difference| format!("{difference}\nrepeat with: reference 1 {seed}"))?;
+                let origin = format!("seed {seed}");
+                let put = match kind {
+                    Kind::Guess => self.put_and_hand_on(&case, &origin, &mut chance),
+                    _ => self.put(&case, &origin, &mut chance).map(drop),
+                };
+                put.map_err(|difference| format!("{difference}\nrepeat with: reference 1 {seed}"))?;
             }
         }
         self.summary(rounds, seed, start)
     }
 
     /// Puts one case, and counts the number it is answered by.
-    fn put(&mut self, case: &Case, origin: &str, chance: &mut Chance) -> Result<cases::Outcome, String> {
+    fn put(&mut self, case: &Case, origin: &str, chance: &mut Chance) -> Result<Outcome, String> {
         let name = case.kind().name();
         if self.noted {
             watch::note(&format!("{origin}, {name}: {}", shown(case)));
@@ -116,6 +124,12 @@ impl Comparison {
             .map_err(|difference| format!("{origin}, {name}: {difference}\ncase: {}", shown(case)))?;
         *self.replies.entry((name, outcome.reply & 0xFF)).or_default() += 1;
         Ok(outcome)
+    }
+
+    /// Puts one case, and hands on what it makes.
+    fn put_and_hand_on(&mut self, case: &Case, origin: &str, chance: &mut Chance) -> Result<(), String> {
+        let made = self.put(case, origin, chance)?;
+        self.hand_on(case, made, origin, chance)
     }
 
     /// The paper's own cases.
@@ -148,8 +162,7 @@ impl Comparison {
                 watch::note(&origin);
                 let mut chance = Chance::new(n as u64, place as u64);
                 for case in operations::cases_of_tree(tree, &mut chance) {
-                    let made = self.put(&case, &origin, &mut chance)?;
-                    self.hand_on(n, &case, made, &origin, &mut chance)?;
+                    self.put_and_hand_on(&case, &origin, &mut chance)?;
                 }
             }
         }
@@ -157,35 +170,64 @@ impl Comparison {
     }
 
     /// Hands the record that a case has made to the next operation. Restandardised from any listing of its tree it is
-    /// the same record; and where it is marked rebuilt, its tree has the table that the rebuild was given.
-    fn hand_on(
-        &mut self,
-        n: usize,
-        case: &Case,
-        made: cases::Outcome,
-        origin: &str,
-        chance: &mut Chance,
-    ) -> Result<(), String> {
+    /// the same record. Its gaps to the table given add up to the total that comes with a guess; they are 0 where it is
+    /// marked rebuilt, and nowhere else.
+    fn hand_on(&mut self, case: &Case, made: Outcome, origin: &str, chance: &mut Chance) -> Result<(), String> {
         let given = match case {
-            Case::Rebuild { poll, table, .. } | Case::Guided { poll, table, .. } => Some((*poll, table.clone())),
+            Case::Rebuild { poll, table, .. } | Case::Guided { poll, table, .. } | Case::Guess { poll, table, .. } => {
+                Some((*poll, table.clone()))
+            }
             Case::Import { .. } => None,
             _ => return Ok(()),
         };
-        let mark = made.reply >> 8;
+        if made.reply & 0xFF != 0 {
+            return Ok(());
+        }
+        let (mark, total, n) = (made.reply >> 8 & 0xFF, made.reply >> 16, made.written.len() / 2 + 2);
         let listing: Vec<u16> = made.written.iter().map(|&child| child as u16).collect();
         let other = draw::any_listing(&Tree::from_listing(n, &listing), chance);
         let again = Case::Restandardise { n, origin: mark as u32, listing: other, room: listing.len() };
-        let due = Due::Written(mark, made.written);
+        let due = Due::Written(mark, made.written.clone());
         self.put_known(&Known { name: "a record restandardised", case: again, due }, origin, chance)?;
-        match given {
-            Some((poll, table)) if mark == REBUILT => {
-                let gap = Case::Gap { n, poll, table, listing, room: n * n };
-                let due = Due::Written(0, vec![0; n * n]);
-                self.put_known(&Known { name: "the gap of a record marked rebuilt", case: gap, due }, origin, chance)
-            }
-            None if mark == REBUILT => Err(format!("{origin}: a record is marked rebuilt, and no table was given")),
+        let Some((poll, table)) = given else {
+            return match mark {
+                REBUILT => Err(format!("{origin}: a record is marked rebuilt, and no table was given")),
+                _ => Ok(()),
+            };
+        };
+        let gap = Case::Gap { n, poll, table: table.clone(), listing: listing.clone(), room: n * n };
+        let gaps = self.put(&gap, origin, chance)?.written;
+        let sum: u64 = above_diagonal(n).map(|(i, j)| gaps[i * n + j].unsigned_abs()).sum();
+        if sum != total || (mark == REBUILT) != (sum == 0) {
+            return Err(format!("{origin}: the gaps of a record marked {mark} add up to {sum}, told is {total}"));
+        }
+        match case {
+            Case::Guess { .. } => self.rebuild_guess(n, poll, table, listing, mark, origin, chance),
             _ => Ok(()),
         }
+    }
+
+    /// Rebuilds the table that a guess was given: 6 exactly where it is marked guessed, else the same tree. Then rebuilds
+    /// the table that its tree has: the same listing.
+    fn rebuild_guess(
+        &mut self,
+        n: usize,
+        poll: u32,
+        table: Vec<u32>,
+        listing: Vec<u16>,
+        mark: u64,
+        origin: &str,
+        chance: &mut Chance,
+    ) -> Result<(), String> {
+        let room = listing.len();
+        let same = || Due::Written(REBUILT, listing.iter().map(|&child| child.into()).collect());
+        let due = if mark == GUESSED { Due::Refused(6, 0) } else { same() };
+        let case = Case::Rebuild { n, poll, table, room };
+        self.put_known(&Known { name: "the table of a guess rebuilt", case, due }, origin, chance)?;
+        let counted = self.put(&Case::Table { n, listing: listing.clone(), room: n * n }, origin, chance)?.written;
+        let own: Vec<u32> = counted.iter().map(|&cell| cell as u32).collect();
+        let case = Case::Rebuild { n, poll, table: scaled(&own, times(poll)), room };
+        self.put_known(&Known { name: "the own table of a guess rebuilt", case, due: same() }, origin, chance)
     }
 
     /// Trees of the most leaves that polls and the other operations take, of every shape, in every operation.
@@ -222,6 +264,20 @@ impl Comparison {
                 self.put_known(&known, &origin, &mut chance)?;
             }
         }
+        Ok(())
+    }
+
+    /// Guesses of every small table of very few leaves, and of rough tables of up to 128, each handed on.
+    fn guesses(&mut self) -> Result<(), String> {
+        let small = small::every_guess().map(|case| (case, "the guess of a small table"));
+        let rough = operations::rough_guesses().into_iter().map(|case| (case, "the guess of a rough table"));
+        let mut count = 0;
+        for (case, origin) in small.chain(rough) {
+            watch::note(&format!("{origin}, {count}"));
+            self.put_and_hand_on(&case, origin, &mut Chance::new(0, count))?;
+            count += 1;
+        }
+        println!("guesses of small tables, and of rough ones of up to 128 leaves, handed on: {count}");
         Ok(())
     }
 

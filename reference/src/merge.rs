@@ -31,22 +31,44 @@ impl<'a> Merging<'a> {
         Merging { n, table, times, m: vec![0; n], subtrees: (0..n).map(single).collect(), made: Vec::new() }
     }
 
+    fn cell(&self, i: usize, j: usize) -> u64 {
+        u64::from(self.table[i * self.n + j])
+    }
+
+    /// The expected value of cell (i,j), which depends on the pairs of leaves outside the two subtrees.
+    fn expected(&self, outside: u64, i: usize, j: usize) -> u64 {
+        self.times * (outside + self.m[i] + self.m[j])
+    }
+
+    /// How many pairs there are of leaves outside two subtrees.
+    fn outside(&self, first: LeafSet, second: LeafSet) -> u64 {
+        pairs_of(self.n - size(first) - size(second))
+    }
+
     /// Every pair of leaves, one from each subtree, is tested.
     pub fn eligible(&self, first: LeafSet, second: LeafSet) -> bool {
-        let outside = pairs_of(self.n - size(first) - size(second));
-        let cell = |i: usize, j: usize| u64::from(self.table[i * self.n + j]);
-        let expected = |i: usize, j: usize| self.times * (outside + self.m[i] + self.m[j]);
-        members(first).all(|i| members(second).all(|j| cell(i, j) == expected(i, j)))
+        let outside = self.outside(first, second);
+        let fits = |i: usize, j: usize| self.cell(i, j) == self.expected(outside, i, j);
+        members(first).all(|i| members(second).all(|j| fits(i, j)))
+    }
+
+    /// The sizes of the gaps of two subtrees' cells from their expected values.
+    pub fn gap_sizes(&self, [first, second]: [LeafSet; 2]) -> impl Iterator<Item = u64> + '_ {
+        let outside = self.outside(first, second);
+        let size = move |i: usize, j: usize| self.cell(i, j).abs_diff(self.expected(outside, i, j));
+        members(first).flat_map(move |i| members(second).map(move |j| size(i, j)))
+    }
+
+    /// Every pair of different subtrees that are left.
+    pub fn pairs(&self) -> impl Iterator<Item = [LeafSet; 2]> + '_ {
+        let later = |place: usize| self.subtrees[place + 1..].iter();
+        let with = move |(place, &first)| later(place).map(move |&second| [first, second]);
+        self.subtrees.iter().enumerate().flat_map(with)
     }
 
     /// Every pair of subtrees that is eligible now.
     pub fn eligible_pairs(&self) -> Vec<[LeafSet; 2]> {
-        let mut pairs = Vec::new();
-        for (place, &first) in self.subtrees.iter().enumerate() {
-            let later = self.subtrees[place + 1..].iter();
-            pairs.extend(later.filter(|&&second| self.eligible(first, second)).map(|&second| [first, second]));
-        }
-        pairs
+        self.pairs().filter(|&[first, second]| self.eligible(first, second)).collect()
     }
 
     pub fn merge(&mut self, [first, second]: [LeafSet; 2]) {

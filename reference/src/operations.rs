@@ -56,6 +56,7 @@ pub fn cases_of_tree(tree: &Tree, chance: &mut Chance) -> Vec<Case> {
         cases.push(Case::Gap { n, poll: POLL, table: sixths.clone(), listing: listing(chance), room: cells });
         cases.push(Case::Gap { n, poll: POLL, table: vec![0; cells], listing: listing(chance), room: cells });
         cases.extend(guided(n, POLL, &sixths, chance));
+        cases.push(Case::Guess { n, poll: POLL, table: sixths.clone(), room: children });
         cases.push(Case::Rebuild { n, poll: POLL, table: sixths, room: children });
     }
     cases.extend(guided(n, COUNTS, &table, chance));
@@ -65,12 +66,26 @@ pub fn cases_of_tree(tree: &Tree, chance: &mut Chance) -> Vec<Case> {
         Case::Import { sheet: sheet.clone(), text, room: children }
     }));
     cases.extend([
+        Case::Guess { n, poll: COUNTS, table: table.clone(), room: children },
         Case::Rebuild { n, poll: COUNTS, table, room: children },
         Case::CheckSheet { sheet: sheet.clone() },
         Case::SheetTable { sheet: sheet.clone(), room: cells },
         Case::SheetName { sheet: sheet.clone(), leaf: n - 1 },
         Case::RebuildSheet { sheet, room: 2 * children },
     ]);
+    cases
+}
+
+/// Guesses of rough tables of every kind with 16 to 64 leaves, of polls' tables too, and of some kinds with 128.
+pub fn rough_guesses() -> Vec<Case> {
+    let mut chance = Chance::new(128, 128);
+    let mut cases = Vec::new();
+    for (n, poll) in [(16, COUNTS), (32, COUNTS), (32, POLL), (64, COUNTS), (128, COUNTS)] {
+        for kind in (0..draw::ROUGH).filter(|kind| n < 128 || [0, 6, 7].contains(kind)) {
+            let table = table::scaled(&draw::table_of_roughness(kind, n, &mut chance), table::times(poll));
+            cases.push(Case::Guess { n, poll, table, room: 2 * (n - 2) + kind });
+        }
+    }
     cases
 }
 

@@ -50,6 +50,7 @@ unsafe extern "C" {
         out: *mut u16,
         room: usize,
     ) -> u64;
+    fn quartree_guess(n: usize, poll: u32, table: *const u32, cells: usize, out: *mut u16, room: usize) -> u64;
     fn quartree_poll(n: usize, records: *const Record, count: usize, out: *mut u32, room: usize) -> u64;
     fn quartree_check_sheet(sheet: *const u8, len: usize) -> u64;
     fn quartree_sheet_table(sheet: *const u8, len: usize, out: *mut u32, room: usize) -> u64;
@@ -205,6 +206,10 @@ pub fn rebuild_guided(n: usize, poll: u32, table: &mut Lent<u32>, merges: &mut L
     unsafe { quartree_rebuild_guided(n, poll, table.pointer(), cells, merges.pointer(), leaves, out.pointer(), room) }
 }
 
+pub fn guess(n: usize, poll: u32, table: &mut Lent<u32>, out: &mut Lent<u16>) -> u64 {
+    unsafe { quartree_guess(n, poll, table.pointer(), table.len(), out.pointer(), out.len()) }
+}
+
 pub fn poll(n: usize, records: &mut Lent<Record>, out: &mut Lent<u32>) -> u64 {
     unsafe { quartree_poll(n, records.pointer(), records.len(), out.pointer(), out.len()) }
 }
@@ -239,6 +244,7 @@ pub fn import(sheet: &mut Lent<u8>, text: &mut Lent<u8>, out: &mut Lent<u16>) ->
 #[cfg(own)]
 mod own {
     use crate::chance::Chance;
+    use crate::guess::{self, Guess};
     use crate::origin::{restandardise, Origin, TreeRecord};
     use crate::poll::Record;
     use crate::refuse::{reply, Answer};
@@ -373,6 +379,21 @@ mod own {
     ) -> u64 {
         let (table, merges) = unsafe { (from_raw_parts(table, cells), from_raw_parts(merges, len)) };
         unsafe { give_record(merge::rebuild_guided(n, poll, table, merges, room), out, room) }
+    }
+
+    #[no_mangle]
+    pub unsafe extern "C" fn quartree_guess(
+        n: usize,
+        poll: u32,
+        table: *const u32,
+        cells: usize,
+        out: *mut u16,
+        room: usize,
+    ) -> u64 {
+        let table = unsafe { from_raw_parts(table, cells) };
+        let answer = guess::guess(n, poll, table, room, &mut own_choice());
+        let figure = answer.as_ref().map_or(0, Guess::figure);
+        unsafe { give(answer.map(|guess| guess.record.listing), out, room) | figure << 8 }
     }
 
     #[no_mangle]

@@ -13,6 +13,17 @@ fn every_list(length: usize, most: usize) -> impl Iterator<Item = Vec<u16>> {
     (0..values.pow(length as u32)).map(move |code| (0..length).map(|place| number(code, place)).collect())
 }
 
+/// Every table with a zero diagonal and equal halves whose other cells are among these.
+pub fn every_table(n: usize, values: &[u32]) -> impl Iterator<Item = Vec<u32>> + '_ {
+    every_list(n * (n - 1) / 2, values.len() - 1).map(move |places| {
+        let mut cells = vec![0; n * n];
+        for (cell, place) in table::above_diagonal(n).zip(places) {
+            table::put(&mut cells, n, cell, values[usize::from(place)]);
+        }
+        cells
+    })
+}
+
 /// Every listing of 3 and 4 leaves with numbers up to 2n−2.
 pub fn every_listing() -> impl Iterator<Item = Case> {
     (3..=4).flat_map(|n| {
@@ -73,6 +84,20 @@ pub fn every_polled_table() -> impl Iterator<Item = Case> {
         let table = poll(n, &records, n * n).expect("nothing is wrong with the poll");
         Case::Rebuild { n, poll: POLL, table, room: 2 * (n - 2) }
     })
+}
+
+/// So many of all tables of five leaves are guessed: every one in this many.
+const SHARE: usize = 10;
+
+/// Guesses: of every table of 3 leaves with cells up to 3, of every one of 4 leaves with cells up to 2, and, as a
+/// poll's, with cells 0, 3 or 6; and of a share of those of 5 leaves with cells 0, 1 or 3, and as a poll's 0, 6 or 17.
+pub fn every_guess() -> impl Iterator<Item = Case> {
+    let guess = |n: usize, poll: u32| move |table| Case::Guess { n, poll, table, room: 2 * (n - 2) };
+    let counts =
+        every_table(3, &[0, 1, 2, 3]).map(guess(3, COUNTS)).chain(every_table(4, &[0, 1, 2]).map(guess(4, COUNTS)));
+    let polled = every_table(4, &[0, 3, 6]).map(guess(4, POLL));
+    let of_five = every_table(5, &[0, 1, 3]).step_by(SHARE).map(guess(5, COUNTS));
+    counts.chain(polled).chain(of_five).chain(every_table(5, &[0, 6, 17]).step_by(SHARE).map(guess(5, POLL)))
 }
 
 /// What short texts are made of.

@@ -4,7 +4,8 @@
 //! other leaves with i,j paired against p,q. A poll's table counts sixths: a tree has it when it is six times its own.
 
 use crate::refuse::{judge, judge_input, judge_leaf_count, judge_room, judge_table_count, Answer, Refusal};
-use crate::tree::{all_leaves, judge_children, members, single, size, LeafSet, Tree};
+use crate::tree::{all_leaves, judge_children, least, members, single, size, within, LeafSet, Tree};
+use std::cmp::Reverse;
 
 /// Up to this many leaves a table is counted by going through all quartets.
 const QUARTETS_UP_TO: usize = 16;
@@ -61,23 +62,32 @@ pub fn by_quartets(tree: &Tree) -> Vec<u32> {
 ///
 /// A far side of i,j is a side of an edge that holds neither. By the definition i,j are paired against p,q exactly
 /// when some far side holds both p and q. So the leaves that p is paired with are those of the far sides with p in
-/// them, itself left out, and each unordered pair is met twice. A side of one leaf holds no two.
+/// them, itself left out, and each unordered pair is met twice. A side of one leaf holds no two. Two far sides are
+/// nested or apart, so one that lies in a larger one, met before, adds nothing.
 pub fn by_far_sides(tree: &Tree) -> Vec<u32> {
     let n = tree.leaves;
     let mut cells = vec![0; n * n];
     for i in 0..n {
         let far_from_i = |side: LeafSet| if side & single(i) == 0 { side } else { all_leaves(n) & !side };
-        let sides: Vec<LeafSet> = tree.edges().map(far_from_i).filter(|&side| size(side) > 1).collect();
+        let mut sides: Vec<LeafSet> = tree.edges().map(far_from_i).filter(|&side| size(side) > 1).collect();
+        sides.sort_by_key(|&side| Reverse(size(side)));
         for j in i + 1..n {
             let mut together: [LeafSet; 128] = [0; 128];
             for &side in sides.iter().filter(|&&side| side & single(j) == 0) {
-                members(side).for_each(|p| together[p] |= side);
+                if !within(side, together[least(side)]) {
+                    members(side).for_each(|p| together[p] |= side);
+                }
             }
             let met: usize = (0..n).map(|p| size(together[p] & !single(p))).sum();
             put(&mut cells, n, (i, j), met as u32 / 2);
         }
     }
     cells
+}
+
+/// The cells above the diagonal, row by row.
+pub fn above_diagonal(n: usize) -> impl Iterator<Item = (usize, usize)> {
+    (0..n).flat_map(move |i| (i + 1..n).map(move |j| (i, j)))
 }
 
 /// Writes a cell and its mirror cell.
