@@ -1,6 +1,7 @@
 /* Measures every call of the part against plain C, and against the floor (its buffers read and written once); the
-   rebuilds also against textbook neighbour joining, the table against counting quartets directly; import also with long
-   texts. Plain C of the table, of a poll, and of all that judges names (plain_sheets.c), is of another algorithm.
+   rebuilds and the guess also against textbook neighbour joining, the table against counting quartets directly; import
+   also with long texts. Plain C of the table, of a poll, of the guess (plain_guess.c), and of all that judges names
+   (plain_sheets.c), is of another algorithm.
    Each figure is a ratio of medians of rounds that take turns in this one run; no bare time is printed. With a file
    name it draws the growth of the calls with the number of leaves there, as an SVG. */
 #define _POSIX_C_SOURCE 200809L
@@ -12,14 +13,14 @@
 #include <string.h>
 #include <time.h>
 
-enum { MOST = 128, ROUNDS = 41, SHAPES = 3, COUNTS = 4, LONG = 1 << 20, TIES = 1 << 19 };
+enum { MOST = 128, ROUNDS = 41, SHAPES = 3, COUNTS = 4, LONG = 1 << 20, TIES = 1 << 19, OFF = 20 };
 static const size_t counts[COUNTS] = {16, 32, 64, 128};
 static const char *const shapes[SHAPES] = {"comb", "balanced", "random"};
 static const uint64_t imported = 256 * QUARTREE_IMPORTED; /* an accepted reply with that origin */
 
 static size_t n;
 static uint16_t listing[2 * MOST], standard[2 * MOST], merges[2 * MOST], joined[2 * MOST], question[4];
-static uint32_t table[MOST * MOST], cells[MOST * MOST], sixths[MOST * MOST];
+static uint32_t table[MOST * MOST], cells[MOST * MOST], sixths[MOST * MOST], rough[MOST * MOST];
 static int64_t gaps[MOST * MOST];
 static uint8_t sets[QUARTREE_SET_BYTES * MOST], bytes[4 * MOST], sheet[QUARTREE_SHEET_MOST_BYTES];
 static uint8_t text[QUARTREE_TEXT_BYTES(MOST)], text_out[QUARTREE_TEXT_BYTES(MOST)], long_text[LONG];
@@ -98,6 +99,20 @@ static void merges_of_rows(void)
     merges[2 * (n - 2) + 1] = 1;
 }
 
+/* The table with every cell, and its mirror, off by up to OFF, and none below 0. */
+static void roughen(void)
+{
+    uint32_t seed = (uint32_t)n;
+    for (size_t i = 0; i < n; i++) {
+        rough[i * n + i] = 0;
+        for (size_t j = i + 1; j < n; j++) {
+            seed = seed * 1664525u + 1013904223u;
+            const uint32_t moved = cells[i * n + j] + (seed >> 8) % (2 * OFF + 1);
+            rough[i * n + j] = rough[j * n + i] = moved < OFF ? 0 : moved - OFF;
+        }
+    }
+}
+
 /* A sheet of the table, with names of four bytes. */
 static void sheet_of_table(void)
 {
@@ -146,6 +161,21 @@ static const struct quartree_record *next_ties(void)
     return ties + count * (turn++ % (TIES / count));
 }
 
+/* The guess of a table, which both make, and of which this origin is due. */
+static void guess_alike(uint32_t poll, const uint32_t *of, uint64_t origin)
+{
+    uint16_t guessed[2 * MOST];
+    const size_t rows = 2 * (n - 2);
+    memset(standard, 0, sizeof standard);
+    const uint64_t reply = quartree_guess(n, poll, of, n * n, standard, rows);
+    if (QUARTREE_NUMBER(reply) != 0 || QUARTREE_FIGURE_Y(reply) != origin
+        || (QUARTREE_FIGURE_X(reply) == 0) != (origin == QUARTREE_REBUILT))
+        fail("a guess has another origin");
+    if (plain_guess(n, poll == QUARTREE_POLL ? 6 : 1, of, guessed) != reply
+        || memcmp(standard, guessed, rows * sizeof *standard) != 0)
+        fail("plain C guesses another tree");
+}
+
 /* A tree of this shape, and all that the calls take of it; what the part and plain C make of them is the same. */
 static void make(int shape)
 {
@@ -187,6 +217,9 @@ static void make(int shape)
     memset(standard, 0, sizeof standard);
     if (plain_rebuild(n, 1, cells, standard) != 0 || memcmp(standard, expected, size) != 0)
         fail("plain C rebuilds another tree");
+    roughen();
+    guess_alike(QUARTREE_COUNTS, rough, QUARTREE_GUESSED);
+    guess_alike(QUARTREE_COUNTS, cells, QUARTREE_REBUILT);
     sheet_of_table();
     if (quartree_sheet_table(sheet, sheet_len, table, n * n) != 256 * n
         || memcmp(table, cells, n * n * sizeof *cells) != 0)
@@ -221,6 +254,8 @@ static void make(int shape)
         if (quartree_poll(n, ties, QUARTREE_POLL_RECORDS(n), table, n * n) != 0
             || plain_poll(n, &ties[0].a, polled) != 0 || memcmp(table, polled, n * n * sizeof *polled) != 0)
             fail("plain C adds up another poll");
+        guess_alike(QUARTREE_POLL, table, QUARTREE_GUESSED);
+        guess_alike(QUARTREE_POLL, sixths, QUARTREE_REBUILT);
     }
 }
 
@@ -301,6 +336,10 @@ static void guided(void)
     sink += quartree_rebuild_guided(n, QUARTREE_COUNTS, cells, n * n, merges, 2 * (n - 1), standard, 2 * (n - 2));
 }
 static void guided_plain(void) { sink += (uint64_t)plain_guided(n, 1, cells, merges, standard); }
+static void guess(void) { sink += quartree_guess(n, QUARTREE_COUNTS, rough, n * n, standard, 2 * (n - 2)); }
+static void guess_plain(void) { sink += plain_guess(n, 1, rough, standard); }
+static void guess_floor(void) { floor_of(rough, n * n * sizeof *rough, standard, 4 * (n - 2)); }
+static void guess_exact(void) { sink += quartree_guess(n, QUARTREE_COUNTS, cells, n * n, standard, 2 * (n - 2)); }
 static void poll(void) { sink += quartree_poll(n, records, QUARTREE_POLL_RECORDS(n), table, n * n); }
 static void poll_plain(void) { sink += (uint64_t)plain_poll(n, &records[0].a, table); }
 static void poll_ties(void) { sink += quartree_poll(n, next_ties(), QUARTREE_POLL_RECORDS(n), table, n * n); }
@@ -341,13 +380,15 @@ static void long_floor(void)
     sink += read_once(sheet, sheet_len);
     floor_of(long_text, long_len, standard, 4 * (n - 2));
 }
-static void joining(void)
+static void join_of(const uint32_t *of)
 {
-    neighbour_joining(n, cells, joined);
+    neighbour_joining(n, of, joined);
     sink += joined[0];
 }
+static void joining(void) { join_of(cells); }
+static void joining_rough(void) { join_of(rough); }
 
-enum { CALLS = 18 };
+enum { CALLS = 19 };
 static const struct {
     const char *name;
     size_t most; /* leaves */
@@ -363,6 +404,7 @@ static const struct {
     {"gap", 128, 40, gap, gap_plain, gap_floor},
     {"rebuild", 128, 40, rebuild, rebuild_plain, rebuild_floor},
     {"guided", 128, 40, guided, guided_plain, rebuild_floor},
+    {"guess", 128, 8, guess, guess_plain, guess_floor},
     {"poll", 32, 20, poll, poll_plain, poll_floor},
     {"poll_ties", 32, 20, poll_ties, poll_ties_plain, poll_floor},
     {"rebuild_poll", 32, 40, rebuild_poll, rebuild_poll_plain, rebuild_floor},
@@ -626,10 +668,29 @@ static void print_rebuilds(void)
     }
 }
 
+static void print_guesses(void)
+{
+    printf("The guess of a table with every cell off by up to %d: ours over plain C, over our rebuild of the exact\n"
+           "table, and over neighbour joining of the rough one; our guess of the exact table over our rebuild of it:\n"
+           "\n", OFF);
+    printf("| tree | n | guess | guess / rebuild | guess / neighbour joining | guess / rebuild, exact table |\n");
+    printf("|---|---|---|---|---|---|\n");
+    for (int shape = 0; shape < SHAPES; shape++)
+        for (int c = 0; c < COUNTS; c++) {
+            n = counts[c];
+            make(shape);
+            printf("| %s | %zu | %.2f | %.1f | %.2f | %.2f |\n", shapes[shape], n, ratio(guess, guess_plain, 8),
+                   ratio(guess, rebuild, 8), ratio(guess, joining_rough, 4), ratio(guess_exact, rebuild, 40));
+            fflush(stdout);
+        }
+    printf("\n");
+}
+
 static void draw(const char *path, double grown[CALLS][COUNTS])
 {
-    static const char *const colours[] = {"#1b6ca8", "#c0392b", "#2e8b57", "#8e44ad", "#d68910", "#34495e"};
-    static const int drawn[] = {1, 5, 7, 8, 13, 15}; /* standardise, table, both rebuilds, and of a sheet */
+    static const char *const colours[] = {"#1b6ca8", "#c0392b", "#2e8b57", "#8e44ad", "#7f8c1f", "#d68910",
+                                          "#34495e"};
+    static const int drawn[] = {1, 5, 7, 8, 9, 14, 16}; /* standardise, table, both rebuilds, guess, and of a sheet */
     FILE *f = fopen(path, "w");
     if (f == NULL)
         fail("the plot cannot be written");
@@ -638,15 +699,15 @@ static void draw(const char *path, double grown[CALLS][COUNTS])
     for (int c = 0; c < COUNTS; c++)
         fprintf(f, "<line x1=\"%d\" y1=\"30\" x2=\"%d\" y2=\"350\" stroke=\"#ddd\"/><text x=\"%d\" y=\"368\" "
                    "text-anchor=\"middle\">%zu leaves</text>\n", 60 + 120 * c, 60 + 120 * c, 60 + 120 * c, counts[c]);
-    for (int e = 0; e <= 6; e += 2)
+    for (int e = 0; e <= 8; e += 2)
         fprintf(f, "<line x1=\"60\" y1=\"%d\" x2=\"420\" y2=\"%d\" stroke=\"#ddd\"/><text x=\"52\" y=\"%d\" "
-                   "text-anchor=\"end\">%d</text>\n", 350 - 50 * e, 350 - 50 * e, 354 - 50 * e, 1 << e);
+                   "text-anchor=\"end\">%d</text>\n", 350 - 40 * e, 350 - 40 * e, 354 - 40 * e, 1 << e);
     fprintf(f, "<text x=\"60\" y=\"20\">time over that at 16 leaves; dashed: n squared</text>\n"
-               "<line x1=\"60\" y1=\"350\" x2=\"420\" y2=\"50\" stroke=\"#888\" stroke-dasharray=\"5 4\"/>\n");
+               "<line x1=\"60\" y1=\"350\" x2=\"420\" y2=\"110\" stroke=\"#888\" stroke-dasharray=\"5 4\"/>\n");
     for (size_t d = 0; d < sizeof drawn / sizeof *drawn; d++) {
         fprintf(f, "<polyline fill=\"none\" stroke=\"%s\" stroke-width=\"2\" points=\"", colours[d]);
         for (int c = 0; c < COUNTS; c++)
-            fprintf(f, "%d,%.1f ", 60 + 120 * c, 350 - 50 * log2(grown[drawn[d]][c]));
+            fprintf(f, "%d,%.1f ", 60 + 120 * c, 350 - 40 * log2(grown[drawn[d]][c]));
         fprintf(f, "\"/>\n<rect x=\"436\" y=\"%zu\" width=\"12\" height=\"3\" fill=\"%s\"/><text x=\"454\" y=\"%zu\">%s"
                    "</text>\n", 56 + 20 * d, colours[d], 62 + 20 * d, calls[drawn[d]].name);
     }
@@ -660,9 +721,10 @@ int main(int argc, char **argv)
     print_against("Ours over plain C, on a random tree:", 0);
     print_against("Ours over the floor, its buffers read and written once:", 1);
     print_rebuilds();
+    print_guesses();
     print_texts();
     growth(grown);
-    printf("Ours at 128 leaves over ours at 32, where n * n gives 16:");
+    printf("Ours at 128 leaves over ours at 32, where n * n gives 16 and n * n * n gives 64:");
     for (int k = 0; k < CALLS; k++)
         if (calls[k].most == 128)
             printf(" %s %.1f%s", calls[k].name, grown[k][3] / grown[k][1], k < CALLS - 1 ? "," : ".\n");

@@ -22,6 +22,10 @@ int plain_gap(size_t n, uint32_t times, const uint32_t *table, const uint16_t *l
 int plain_rebuild(size_t n, uint32_t times, const uint32_t *table, uint16_t *out);
 /* The guided rebuild: checks 4 and 5, the merges, and then the listing by plain_rebuild. 0, 4, 5 or 12. */
 int plain_guided(size_t n, uint32_t times, const uint32_t *table, const uint16_t *merges, uint16_t *out);
+/* The guess at a tree of such a table: checks 4 and 5, then plain_rebuild, and where that says 6 the merges of the
+   least mean sizes of gap (plain_guess.c), which it looks for by bounds. The reply is the part's, 4 or 5 without a
+   figure. */
+uint64_t plain_guess(size_t n, uint32_t times, const uint32_t *table, uint16_t *out);
 /* The splits, sixteen bytes each. */
 void plain_splits(size_t n, const uint16_t *listing, uint8_t *out);
 /* 0, 1 or 2: how the tree pairs the four leaves. */
