@@ -39,7 +39,7 @@ fn add_row(
 {
     let mut y: usize = 0;
     while y < n {
-        columns[y] += apart(row[y], due[y] + m);
+        columns[y] += apart(row[y], due[y] + m) as u64;
         y += 1;
     }
 }
@@ -93,7 +93,7 @@ fn add_rows(
 }
 
 // The size of the gap of a cell, if its leaf is in the subtree `a`; else 0.
-fn gap_of(label: u32, a: u32, cell: u32, expected: u32) -> u64
+fn gap_of(label: u32, a: u32, cell: u32, expected: u32) -> u32
     ensures { λ r. ⌜ (r ≡ indicator (eqb label a) (distance cell expected)) × (r ≤ largest-gap) ⌝ }
 {
     if label != a {
@@ -102,7 +102,8 @@ fn gap_of(label: u32, a: u32, cell: u32, expected: u32) -> u64
     apart(cell, expected)
 }
 
-// The gaps of the leaves of the subtree `a` in a row, added up: `due` is expected there, and their m.
+// The gaps of the leaves of the subtree `a` in a row, added up: `due` is expected there, and their m. Their lower and
+// their upper 16 bits are added up apart, in 32 bits: so the processor takes four cells at a time.
 fn row_gaps(
     n: usize,
     row: &[u32],
@@ -115,13 +116,16 @@ fn row_gaps(
     ensures { λ r. ⌜ (r ≡ sum-below n (λ x. indicator (eqb (getD (now (label .entry)) x 0) a)
         (distance (getD (now (row .entry)) x 0) (due + getD (now (m .entry)) x 0)))) × (r ≤ most-leaf-gaps) ⌝ }
 {
-    let mut total: u64 = 0;
+    let mut low: u32 = 0;
+    let mut high: u32 = 0;
     let mut x: usize = 0;
     while x < n {
-        total += gap_of(label[x], a, row[x], due + m[x]);
+        let gap = gap_of(label[x], a, row[x], due + m[x]);
+        low += gap % 65536;
+        high += gap / 65536;
         x += 1;
     }
-    total
+    (low as u64) + 65536 * (high as u64)
 }
 
 // The column of leaf y, if it is outside of the subtree `a`, by its own row: the halves of the table are equal.
@@ -326,7 +330,7 @@ fn start_row(row: &[u32], e: u32, j: usize, sums: &mut [u64; MOST_PAIRS])
 {
     let mut i: usize = 0;
     while i < j {
-        sums[pair_place(i, j)] = apart(row[i], e);
+        sums[pair_place(i, j)] = apart(row[i], e) as u64;
         i += 1;
     }
 }

@@ -28,13 +28,13 @@ pub fn index_of_u32(x: u32) -> usize
 }
 
 // How far two numbers are apart.
-pub fn apart(x: u32, y: u32) -> u64
+pub fn apart(x: u32, y: u32) -> u32
     ensures { λ r. ⌜ (r ≡ distance x y) × (r < 2 ^ 32) ⌝ }
 {
     if x < y {
-        return (y - x) as u64;
+        return y - x;
     }
-    (x - y) as u64
+    x - y
 }
 
 // Each of n leaves gets its own number. For the crates above.

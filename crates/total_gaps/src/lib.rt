@@ -34,7 +34,7 @@ fn add_row(
     let mut sum: u64 = 0;
     let mut j: usize = 0;
     while j < i {
-        sum += apart(cells[i * n + j], scale * count_at(base, aboves, tops, j));
+        sum += apart(cells[i * n + j], scale * count_at(base, aboves, tops, j)) as u64;
         j += 1;
     }
     sum

@@ -13,8 +13,9 @@ use Rattle.gap_sums.proofs.add_columns.Tie as tie
 
 abbrev Inv-loop : tie.InvT-loop
 Inv-loop n label columns sums₀ y₀ sums y =
-    (y ≤ n) × (length sums ≡ most-leaves) × ((k : ℕ) → k < n → getD sums k 0 ≡ sum-below y (λ x. indicator (eqb
-    (getD label x 0) k) (getD columns x 0)))
+    (y ≤ n) × (length sums ≡ most-leaves)
+    × ((k : ℕ) → k < n
+    → getD sums k 0 ≡ sum-below y (λ x. indicator (eqb (getD label x 0) k) (getD columns x 0)))
 
 abbrev μ-loop : tie.MeasureT-loop
 μ-loop n label columns sums₀ y₀ sums y = n - y

@@ -62,7 +62,7 @@ add-row-spec =
     loop-holds
     (λ c. search needs) (λ c. search needs) (λ c. search needs) (λ c. search needs)
     add-apart
-    (λ c κs. search needs) (λ c. search needs) (λ c. search needs)
+    (λ c κs. search needs) (λ c. search needs) (λ c. search needs) (λ c. search needs)
     add-columns
     (λ c. search needs) (λ c. search needs)
     loop-less

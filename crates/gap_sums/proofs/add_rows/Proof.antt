@@ -13,8 +13,8 @@ use Rattle.gap_sums.proofs.add_rows.Tie as tie
 
 abbrev Inv-loop : tie.InvT-loop
 Inv-loop n table label m a due columns₀ x₀ columns x =
-    (x ≤ n) × (length columns ≡ most-leaves) × ((y : ℕ) → y < n → getD columns y 0 ≡ sum-below x
-    (gap-in n table label m a (getD due y 0) y))
+    (x ≤ n) × (length columns ≡ most-leaves)
+    × ((y : ℕ) → y < n → getD columns y 0 ≡ sum-below x (gap-in n table label m a (getD due y 0) y))
 
 abbrev μ-loop : tie.MeasureT-loop
 μ-loop n table label m a due columns₀ x₀ columns x = n - x

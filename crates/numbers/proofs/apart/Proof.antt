@@ -14,4 +14,4 @@ unfolding distance
 returns-2 c = (omega arith, omega arith)
 
 pub apart-spec : {M : Type 1} → statement M
-apart-spec = tie.close (tie.spec (λ c. search needs) (λ c. search needs) returns (λ c. search needs) returns-2)
+apart-spec = tie.close (tie.spec (λ c. search needs) returns returns-2)

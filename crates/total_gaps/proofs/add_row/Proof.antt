@@ -87,7 +87,7 @@ add-row-spec =
     shared-slice-read-apart
     count-at-requires
     mul-apart-3
-    (λ c κs. search needs)
+    (λ c κs. search needs) (λ c. search needs)
     add-sum
     (λ c. search needs) (λ c. search needs)
     loop-again
