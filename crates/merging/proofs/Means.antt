@@ -88,7 +88,7 @@ module _ (n s : ℕ) (c : ℕ → ℕ → ℕ) (S : State) where
   )
 
   -- The order of the two subtrees does not matter, nor which leaves name them.
-  gap-sum-turn : EqualHalves n c → (A B : Tree) → gap-sum n s c S A B ≡ gap-sum n s c S B A
+  pub gap-sum-turn : EqualHalves n c → (A B : Tree) → gap-sum n s c S A B ≡ gap-sum n s c S B A
   unfolding gap-sum expected
   gap-sum-turn halves A B = sum-swap n n (part A B) ∙ sum2-ext n _ _ (λ y x ly lx.
       rw (

@@ -1,2 +1,2 @@
-mod Order
+pub mod Order
 mod Search

@@ -4,6 +4,7 @@ use mathlib.Core.Path.{_≡_, sym, _∙_}
 use mathlib.Core.List.{List}
 use Prim.Native.Nat.{ℕ, _<_}
 use native.Mathlib.Omega.{arith}
+use native.Mathlib.Decide.{decLt}
 use borrow.Author.Tests.{lt-ltb, le-ltb}
 use lib.ListN.{getD}
 use Rattle.trees.specs.Tables.{cell, IsTable}
@@ -25,6 +26,16 @@ module _ (n : ℕ) (c : List ℕ) where
 
   both-sides : (i j : ℕ) → i < j → mirrored n c i j ≡ mirrored n c j i
   both-sides i j l = above-diagonal i j l ∙ sym (below-diagonal j i l)
+
+  -- the halves are equal
+  pub both-ways : (i j : ℕ) → mirrored n c i j ≡ mirrored n c j i
+  both-ways i j = elim (decLt i j) [
+    | yes l ↦ both-sides i j l
+    | no g ↦ elim (decLt j i) [
+      | yes l ↦ sym (both-sides j i l)
+      | no f ↦ (let e : i ≡ j = omega arith in rw e)
+    ]
+  ]
 
   pub cell-is : (i j : ℕ) → i < n → j < n → cell n (table-with n c) i j ≡ mirrored n c i j
   unfolding table-with

@@ -45,7 +45,7 @@ counts-given kind n t p count is-table counts =
     (e, rw e (record { leaf-count = count; is-table = is-table; scaled = scale-bounds kind; pair-counts = counts }))
 
 -- The labels after a merge, and what m grows by.
-relabel-other : (l a b : ℕ) → l ≢ b → relabelled l a b ≡ l
+pub relabel-other : (l a b : ℕ) → l ≢ b → relabelled l a b ≡ l
 unfolding relabelled
 relabel-other l a b d = rw (ne-eqb l b d)
 
@@ -88,7 +88,7 @@ module _ {n s : ℕ} {S : State} (w : WellFormed n S) {label m sizes : List ℕ}
   -- the test of two labels says whether their subtrees are eligible
   module _ {t p : List ℕ} (g : Given n s t p) (i k : ℕ) (li : i < n) (lk : k < n) (oi : getD label i 0 ≡ i)
       (ok : getD label k 0 ≡ k) where
-    expected-is :
+    pub expected-is :
         (x y : ℕ) → x < n → y < n
         → (getD p (n - (getD sizes i 0 + getD sizes k 0)) 0 + getD m x 0) + getD m y 0
         ≡ s * (P (n - (size (S .tree i) + size (S .tree k))) + (S .m x + S .m y))
@@ -172,7 +172,7 @@ module _ {n s : ℕ} {S : State} (w : WellFormed n S) {label m sizes : List ℕ}
         let oi′ = is-least i (e .left) oi in
         least-join A B (rw (oi′, is-least k (e .right) ok) ik) ∙ oi′
 
-    label-is : (x : ℕ) → x < n → getD label′ x 0 ≡ relabelled (getD label x 0) i k
+    pub label-is : (x : ℕ) → x < n → getD label′ x 0 ≡ relabelled (getD label x 0) i k
     label-is x lx = rw (d .gathered .labels, getD-filled (label-at label i k) label n x 0 lx) (unfold label-at in refl)
 
     labels′ : (x : ℕ) → x < n → getD label′ x 0 ≡ least ((step S i k) .tree x)
