@@ -29,7 +29,8 @@ use Rattle.sheet_rules.specs.Operations.{sheet-refusal}
 use Rattle.sheet_rules.proofs.SheetRefusal.{accepted-sheet}
 use Rattle.sheet_trees.specs.Operations.{sheet-tree, sheet-listing-answer}
 use Rattle.sheet_trees.proofs.Promises.{other-than-six, sheet-not-six}
-use Rattle.guess_answers.specs.Operations.{guess-answer, sheet-reply, sheet-guess-answer, listing-of}
+use Rattle.guess_answers.specs.Operations.{guess-answer, listing-of, sheet-reply, sheet-guessed}
+use Rattle.guess_answers.specs.Operations.{sheet-guess-answer}
 use Rattle.guess_answers.specs.Meanings.{GuessMeans, SheetGuessMeans, GivesReply}
 use Rattle.guess_answers.proofs.Replies as both
 use Rattle.guess_answers.proofs.Replies.{IsReply}
@@ -148,9 +149,8 @@ module _ (S : List ℕ) (room : ℕ) where
   sheet-guess-same-tree = both.same-tree sheet-before
 
   pub sheet-guess-for-six :
-      sheet-listing-answer S room ≡ refused NoTree
-      → sheet-guess-answer S room ≡ accepted (guessed n 1 table)
-  unfolding sheet-guess-answer sheet-reply sheet-listing-answer sheet-tree
+      sheet-listing-answer S room ≡ refused NoTree → sheet-guess-answer S room ≡ accepted (sheet-guessed S)
+  unfolding sheet-guess-answer sheet-reply sheet-listing-answer sheet-tree sheet-guessed
   sheet-guess-for-six = both.guessed-for-six sheet-before
 
   pub sheet-guess-is-reply : (R : Reply) → sheet-guess-answer S room ≡ accepted R → IsReply n 1 table R

@@ -6,7 +6,7 @@ use Rattle.limits.specs.declared.Kind.{Kind}
 use Rattle.limits.specs.Limits.{scale-of}
 use Rattle.refusals.specs.Refusals.{Answer, accepted, refused, answered}
 use Rattle.tree_records.specs.Records.{TreeRecord}
-use Rattle.merging.specs.Guesses.{Reply, replied}
+use Rattle.merging.specs.Guesses.{Reply, guessed, replied}
 use Rattle.table_checks.specs.Operations.{table-refusal}
 use Rattle.packed_tables.specs.Packed.{table-with}
 use Rattle.sheet_rules.specs.Sheets.{leaves-of, cells-of}
@@ -16,9 +16,12 @@ use Rattle.sheet_rules.specs.Operations.{sheet-refusal}
 unfoldable pub guess-answer : Kind → (n : ℕ) (t : List ℕ) (room : ℕ) → Answer Reply
 guess-answer kind n t room = answered (table-refusal kind n t (2 * (n - 2)) room) (replied n (scale-of kind) t)
 
--- what our own rebuild replies to the table of the sheet S, which is one of counts
+-- the table of the sheet S, which is one of counts: what our own rebuild replies to it, and the guess of it
 unfoldable pub sheet-reply : List ℕ → Reply
 sheet-reply S = replied (leaves-of S) 1 (table-with (leaves-of S) (cells-of S))
+
+unfoldable pub sheet-guessed : List ℕ → Reply
+sheet-guessed S = guessed (leaves-of S) 1 (table-with (leaves-of S) (cells-of S))
 
 -- a sheet, and room for a listing: 13, 1, 14, 3, 15, 16, then a tree
 unfoldable pub sheet-guess-answer : (S : List ℕ) (room : ℕ) → Answer Reply
