@@ -1,5 +1,5 @@
--- The reply of a C call that makes a guess, its listing in a buffer: the figure is the origin's number and 256 times the
--- total gap.
+-- The reply of a C call that makes a guess, its listing in a buffer: the figure is the origin's number and 256 times
+-- the total gap.
 use mathlib.Core.List.{[], _∷_}
 use Prim.Native.Nat.{ℕ}
 use Rattle.refusals.specs.Refusals.{Answer, accepted, refused}
