@@ -24,6 +24,9 @@ ghost use Rattle.sheet_tables.specs.Operations.{sheet-table-answer};
 ghost use Rattle.sheet_names.specs.Operations.{name-answer};
 ghost use Rattle.sheet_trees.specs.Operations.{sheet-bytes-answer};
 ghost use Rattle.sheet_trees.specs.Meanings.{SheetBytesMean};
+ghost use Rattle.guess_answers.specs.Operations.{guess-answer, guess-listing};
+ghost use Rattle.guess_answers.specs.Meanings.{GuessMeans, GivesReply};
+ghost use Rattle.guess_replies.specs.Replies.{guess-reply};
 ghost use Rattle.newick_rules.specs.Operations.{import-answer, export-answer};
 ghost use Rattle.newick_rules.specs.Meanings.{ImportMeans};
 ghost use Rattle.poll_rules.specs.Operations.{poll-answer};
@@ -129,6 +132,20 @@ pub extern "C" fn quartree_rebuild(n: usize, poll: u32, cells: &[u32], out: &mut
         (now (out .entry)) (now (out .exit)) ⌝ }
 {
     record_replies::record_reply(record_operations::rebuild(kind_of(poll), n, cells, out))
+}
+
+// A tree even from a rough table, and its origin and total gap as the figure: 1, 2, 3, 4, 5.
+#[no_mangle]
+pub extern "C" fn quartree_guess(n: usize, poll: u32, cells: &[u32], out: &mut [u16]) -> u64
+    ensures answer { λ r. ⌜ r
+        ≡ guess-reply (guess-answer (kind-of poll) n (now (cells .entry)) (length (now (out .entry)))) ⌝ }
+    ensures buffer { λ r. ⌜ now (out .exit) ≡ written
+        (guess-listing (kind-of poll) n (now (cells .entry)) (length (now (out .entry)))) (now (out .entry)) ⌝ }
+    ensures meaning { λ r. ⌜ GivesReply guess-reply
+        (GuessMeans (kind-of poll) n (now (cells .entry)) (length (now (out .entry)))) r
+        (now (out .entry)) (now (out .exit)) ⌝ }
+{
+    guess_replies::guess_reply(guesses::guess(kind_of(poll), n, cells, out))
 }
 
 // The guided rebuild, and rebuilt as the figure: 1, 2, 3, 4, 5, 12.

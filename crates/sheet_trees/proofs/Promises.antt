@@ -66,21 +66,21 @@ sheet-passes-exactly S due room = (
 )
 
 -- 6 is not among the refusals that go before
-not-six : (S : List ℕ) (due room : ℕ) → Arises (λ r. r ≢ NoTree) (sheet-refusal S due room)
-unfolding sheet-refusal
-not-six S due room = sheet-arises (λ r. r ≢ NoTree) S (leaves-of S) (offset-of S) causes due room
-  where
-    other-number : (r : Refusal) → number-of r ≢ 6 → r ≢ NoTree
-    other-number r h e = h (ap number-of e)
+pub other-than-six : (r : Refusal) → number-of r ≢ 6 → r ≢ NoTree
+other-than-six r h e = h (ap number-of e)
 
+pub sheet-not-six : (S : List ℕ) (due room : ℕ) → Arises (λ r. r ≢ NoTree) (sheet-refusal S due room)
+unfolding sheet-refusal
+sheet-not-six S due room = sheet-arises (λ r. r ≢ NoTree) S (leaves-of S) (offset-of S) causes due room
+  where
     causes : SheetCauses (λ r. r ≢ NoTree)
     causes = record {
-      ends = other-number _ (omega arith);
-      count = other-number _ (omega arith);
-      sum = other-number _ (omega arith);
-      room = other-number _ (omega arith);
-      name = λ i. other-number _ (omega arith);
-      same-name = λ i. other-number _ (omega arith);
+      ends = other-than-six _ (omega arith);
+      count = other-than-six _ (omega arith);
+      sum = other-than-six _ (omega arith);
+      room = other-than-six _ (omega arith);
+      name = λ i. other-than-six _ (omega arith);
+      same-name = λ i. other-than-six _ (omega arith);
     }
 
 -- The call that gives the listing in numbers: where it is accepted, the listing is that of our own rebuild of the
@@ -135,7 +135,7 @@ module _ (S : List ℕ) where
         → (sheet-refusal S due room ≡ none) × (sheet-tree S ≡ refused NoTree)
     unfolding sheet-bytes-answer
     told-six e = elim (unless-refused (sheet-refusal S due room) (in-bytes (sheet-tree S)) NoTree e) [
-      | inl before ↦ absurd ((rw before at (not-six S due room)) refl)
+      | inl before ↦ absurd ((rw before at (sheet-not-six S due room)) refl)
       | inr after ↦ (after .0, in-bytes-refused _ _ (after .1))
     ]
 

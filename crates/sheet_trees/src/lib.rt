@@ -16,8 +16,8 @@ ghost use Rattle.sheet_trees.specs.Meanings.{SheetBytesMean};
 mod bytes;
 
 // Judges a sheet by its trailer's figures, and the room for a listing that takes so many cells a row: 13, 1, 14, 3, 15,
-// 16.
-fn judge_rows(sheet: &[u8], figures: Figures, cells: usize, room: usize) -> Outcome
+// 16. For the crates above.
+pub fn judge_rows(sheet: &[u8], figures: Figures, cells: usize, room: usize) -> Outcome
     requires { ⌜ FiguresOf (now sheet) figures × (cells ≤ 4) ⌝ }
     ensures { λ r. ⌜ r ≡ outcome-of (sheet-refusal (now (sheet .entry)) (cells * (leaves-of (now (sheet .entry)) - 2))
         room) ⌝ }
@@ -31,7 +31,8 @@ fn judge_rows(sheet: &[u8], figures: Figures, cells: usize, room: usize) -> Outc
 }
 
 // The tree of a sheet that has been judged, with room for its listing: the rebuild reads the cells where they stand.
-fn tree_of(sheet: &[u8], figures: Figures, listing: &mut [u16]) -> Outcome
+// For the crates above.
+pub fn tree_of(sheet: &[u8], figures: Figures, listing: &mut [u16]) -> Outcome
     requires { ⌜ FiguresOf (now sheet) figures
         × (sheet-refusal (now sheet) (2 * (leaves-of (now sheet) - 2)) (length (now listing)) ≡ none) ⌝ }
     ensures answer { λ r. ⌜ r ≡ outcome (sheet-tree (now (sheet .entry))) ⌝ }

@@ -1,4 +1,4 @@
--- The total gap is 0 exactly when the tree has the table, and it fits 64 bits where the cells fit 32.
+-- The total gap is 0 exactly when the tree has the table, and it fits 48 bits where the cells fit 32.
 use mathlib.Core.Path.{_≡_, refl}
 use mathlib.Core.Logic.{_↔_}
 use mathlib.Core.List.{List, [], _∷_}
@@ -54,10 +54,10 @@ module _ (n s : ℕ) (t : List ℕ) (T : Tree) where
   unfolding total-gap gap-size
   ordered-gap = pair-sum-ext n _ _ (λ i j l m. rw (ordered-quartets n T i j))
 
-  -- no total is too large for 64 bits, whatever the limit on the leaves
+  -- no total is too large for 48 bits, also where the limit on the leaves is 255
   pub gap-fits :
       IsLeafCount n → s * largest-cell < 2 ^ 32 → ((i j : ℕ) → i < n → j < n → cell n t i j < 2 ^ 32)
-      → total-gap n s t T < 2 ^ 64
+      → total-gap n s t T < 2 ^ 48
   unfolding total-gap gap-size
   gap-fits c few cells =
       let all = pair-sum-le n (gap-size n s t T) (2 ^ 32 - 1) each in
