@@ -5,6 +5,7 @@ use limits::MOST_LEAVES;
 use limits::MOST_PAIRS;
 use numbers::index_of_u32;
 ghost use mathlib.Core.Path.{_≡_};
+ghost use mathlib.Core.Logic.{_≢_};
 ghost use mathlib.Core.Bool.{true, false};
 ghost use Prim.Native.Nat.{ℕ, _+_, _<_, _≤_};
 ghost use lib.ListN.{length, getD};
@@ -186,8 +187,22 @@ fn nearer_of_two(
     best.second
 }
 
-// The partner of the label i after the subtree `b` became a part of `a`: it is looked for anew where i is `a`, and
-// where it was one of the two. Else it stays if i comes after `a`; before that the new pair with `a` may be taken first.
+// Whether the partner of i is looked for anew after the subtree `b` became a part of `a`: where i is `a`, and where the
+// partner was one of the two.
+fn is_stale(a: usize, b: usize, i: usize, old: usize) -> bool
+    ensures { λ r. ⌜ (r ≡ false → (i ≢ a) × (old ≢ a) × (old ≢ b)) ⌝ }
+{
+    if i == a {
+        return true;
+    }
+    if old == a {
+        return true;
+    }
+    old == b
+}
+
+// The partner of the label i after that merge: where it is not looked for anew, it stays if i comes after `a`; before
+// that the new pair with `a` may be taken first.
 fn renewed(
     n: usize,
     label: &[u32; MOST_LEAVES],
@@ -202,17 +217,11 @@ fn renewed(
         × (getD (now label) i 0 ≡ i) × Outdated n (now label) (now sizes) (now sums) a b i old ⌝ }
     ensures { λ r. ⌜ Partner n (now (label .entry)) (now (sizes .entry)) (now (sums .entry)) i r ⌝ }
 {
-    if i == a {
-        return find_partner(n, label, sizes, sums, i);
-    }
-    if old == b {
+    if is_stale(a, b, i, old) {
         return find_partner(n, label, sizes, sums, i);
     }
     if a < i {
         return old;
-    }
-    if old == a {
-        return find_partner(n, label, sizes, sums, i);
     }
     if old < a {
         return nearer_of_two(n, label, sizes, sums, i, old, a);

@@ -16,29 +16,29 @@ Inv-loop n label sizes sums partners best₀ i₀ best i = (i ≤ n) × Best n l
 abbrev μ-loop : tie.MeasureT-loop
 μ-loop n label sizes sums partners best₀ i₀ best i = n - i
 
--- src/lib.rt:161:5
+-- src/lib.rt:162:5
 loop-holds : tie.Need-loop-holds Inv-loop μ-loop
 loop-holds c = (omega arith, rows-start (c .pre .0))
 
--- src/lib.rt:162:9
+-- src/lib.rt:163:9
 better-requires : tie.Need-better-requires Inv-loop μ-loop
 better-requires c κs =
     let s = c .before .before in
     (s .pre .0, s .pre .1, omega arith, c .before .loop .inv .1)
 
--- src/lib.rt:163:9
+-- src/lib.rt:164:9
 add-i : tie.Need-add-i Inv-loop μ-loop
 add-i c = search needs
 
--- src/lib.rt:161:5
+-- src/lib.rt:162:5
 loop-less : tie.Need-loop-less Inv-loop μ-loop
 loop-less c = omega arith
 
--- src/lib.rt:161:5
+-- src/lib.rt:162:5
 loop-again : tie.Need-loop-again Inv-loop μ-loop
 loop-again c = (omega arith, c .better .ensures)
 
--- src/lib.rt:142:1
+-- src/lib.rt:143:1
 returns : tie.Need-returns Inv-loop μ-loop
 returns c =
     let e : c .before .loop .i ≡ c .before .before .args .n = omega arith in

@@ -18,33 +18,33 @@ Inv-loop n label sizes sums partners₀ i₀ partners i =
 abbrev μ-loop : tie.MeasureT-loop
 μ-loop n label sizes sums partners₀ i₀ partners i = n - i
 
--- src/lib.rt:110:5
+-- src/lib.rt:111:5
 loop-holds : tie.Need-loop-holds Inv-loop μ-loop
 loop-holds c = (omega arith, c .pre .1, λ k l. absurd (omega arith))
 
--- src/lib.rt:111:23
+-- src/lib.rt:112:23
 find-partner-requires : tie.Need-find-partner-requires Inv-loop μ-loop
 find-partner-requires c κs =
     let s = c .before .before in
     (s .pre .0, omega arith, s .pre .2 (c .before .loop .i) (omega arith))
 
--- src/lib.rt:111:9
+-- src/lib.rt:112:9
 mul-partners : tie.Need-mul-partners Inv-loop μ-loop
 mul-partners c = search needs
 
--- src/lib.rt:111:9
+-- src/lib.rt:112:9
 element-write-partners : tie.Need-element-write-partners Inv-loop μ-loop
 element-write-partners c = search needs
 
--- src/lib.rt:112:9
+-- src/lib.rt:113:9
 add-i : tie.Need-add-i Inv-loop μ-loop
 add-i c = search needs
 
--- src/lib.rt:110:5
+-- src/lib.rt:111:5
 loop-less : tie.Need-loop-less Inv-loop μ-loop
 loop-less c = omega arith
 
--- src/lib.rt:110:5
+-- src/lib.rt:111:5
 loop-again : tie.Need-loop-again Inv-loop μ-loop
 loop-again c =
     let s = c .before .before .before in
@@ -55,7 +55,7 @@ loop-again c =
           (λ o. c .find-partner .ensures),
     )
 
--- src/lib.rt:97:1
+-- src/lib.rt:98:1
 returns : tie.Need-returns Inv-loop μ-loop
 returns c =
     let l = c .before .loop in

@@ -24,35 +24,35 @@ found c =
       own-second = sym (c .before .index-of-u32 .ensures) ∙ c .if1 .left;
     }
 
--- src/lib.rt:65:21
+-- src/lib.rt:66:21
 mul-index-of-u32 : tie.Need-mul-index-of-u32
 mul-index-of-u32 c = search needs
 
--- src/lib.rt:65:21
+-- src/lib.rt:66:21
 element-copy-out-index-of-u32 : tie.Need-element-copy-out-index-of-u32
 element-copy-out-index-of-u32 c = search needs
 
--- src/lib.rt:65:8
+-- src/lib.rt:66:8
 index-of-u32-requires : tie.Need-index-of-u32-requires
 index-of-u32-requires c κs = search needs
 
--- src/lib.rt:66:9
+-- src/lib.rt:67:9
 returns : tie.Need-returns
 returns c =
     let s = c .before .before .before in
     row-skip (s .pre .0) (s .pre .4) (λ e. c .if1 .taken (c .before .index-of-u32 .ensures ∙ e))
 
--- src/lib.rt:68:19
+-- src/lib.rt:69:19
 pair-of-requires : tie.Need-pair-of-requires
 pair-of-requires c κs = pair-fits (c .before .before .before .pre .0) (found c)
 
--- src/lib.rt:68:5
+-- src/lib.rt:69:5
 smaller-requires : tie.Need-smaller-requires
 smaller-requires c κs =
     let s = c .before .before .before .before in
     (best-small (s .pre .0) (s .pre .4), rw (c .pair-of .ensures) (pair-small (s .pre .0) (found (c .before))))
 
--- src/lib.rt:52:1
+-- src/lib.rt:53:1
 returns-2 : tie.Need-returns-2
 returns-2 c =
     let s = c .before .before .before .before .before in
