@@ -52,7 +52,8 @@ returns c = search needs
 -- src/lib.rt:224:9
 returns-2 : tie.Need-returns-2
 returns-2 c =
-    c .before .before .before .pre .5 .between (c .if2 .taken) (c .before .before .is-stale .ensures (c .before .if1 .left) .2)
+    c .before .before .before .pre .5 .between (c .if2 .taken)
+    (c .before .before .is-stale .ensures (c .before .if1 .left) .2)
 
 -- src/lib.rt:227:9
 nearer-of-two-requires : tie.Need-nearer-of-two-requires
