@@ -3,16 +3,16 @@ use mathlib.Core.Path.{_≡_, ap, sym, _∙_}
 use mathlib.Core.Logic.{_⊎_, inl, inr, _≢_}
 use mathlib.Core.Bool.{false}
 use mathlib.Core.List.{List}
-use Prim.Native.Nat.{ℕ, _+_, _*_, _≤_, _<_}
+use Prim.Native.Nat.{ℕ, _≤_, _<_}
 use native.Mathlib.Omega.{arith}
 use native.Mathlib.Decide.{decLt, ℕ-discrete}
 use lib.ListN.{getD}
 use Rattle.base.specs.Numbers.{less}
 use Rattle.base.proofs.Counts.{count-le}
 use Rattle.limits.specs.Limits.{most-leaves}
-use Rattle.trees.specs.Trees.{leaves, size, least}
+use Rattle.trees.specs.Trees.{leaves, least}
 use Rattle.trees.specs.Tables.{cell}
-use Rattle.trees.proofs.Trees.{size-pos, least-le, least-differ}
+use Rattle.trees.proofs.Trees.{size-pos, least-differ}
 use Rattle.merging.specs.Merging.{State}
 use Rattle.merging.specs.Guesses.{mean, IsNearest}
 use Rattle.merging.proofs.States.{WellFormed, apart}
@@ -21,18 +21,15 @@ use Rattle.merging.proofs.Means.{mean-turn, mean-move, leader, leader-below}
 use Rattle.state_arrays.specs.inner.StateArrays.{HoldsState}
 use Rattle.state_arrays.proofs.StateArrays.{is-least, two-apart}
 use Rattle.gap_sums.specs.inner.GapSums.{SmallGaps}
-use Rattle.nearest_pairs.specs.declared.Pair.{Pair}
 use Rattle.nearest_pairs.specs.inner.Nearest.{kept-mean, taken-before, TwoLabels, SearchFits, Chosen}
 use Rattle.nearest_pairs.proofs.Order.{not-sooner}
 use Rattle.guess_merges.specs.inner.Guessing.{KeepsGaps}
 
 module _ {n s : ℕ} {S : State} (w : WellFormed n S) {label m sizes : List ℕ} (h : HoldsState n s label m sizes S) where
   -- what the search asks of the arrays
-  pub search-fits : 0 < n → n ≤ most-leaves → (sums : List ℕ) → SmallGaps n sums → SearchFits n label sizes sums
-  search-fits z few sums small = record {
-    some = z;
+  pub search-fits : n ≤ most-leaves → (sums : List ℕ) → SmallGaps n sums → SearchFits n label sizes sums
+  search-fits few sums small = record {
     few = few;
-    zero-own = h .labels 0 z ∙ (let l = least-le (S .tree 0) 0 (w .own 0) in omega arith);
     filled = λ k l o. rw (h .sized k l o) (size-pos (S .tree k));
     sized = λ k l o. rw (h .sized k l o, w .sized k l) (omega (arith, count-le n (leaves (S .tree k))));
     small = small;
@@ -68,31 +65,31 @@ module _ {n s : ℕ} {S : State} (w : WellFormed n S) {label m sizes : List ℕ}
         kept-is _ _ (leaders x y lx ly up)
         ∙ mean-move n s (cell n t) S x y (least (S .tree x)) (least (S .tree y)) (leader w x) (leader w y)
 
-    module _ (p : Pair) (z : 0 < p .second) (v : Chosen n label sizes sums n p) where
-      two : TwoLabels n label (p .first) (p .second)
+    module _ (a b : ℕ) (z : b ≢ n) (v : Chosen n label sizes sums a b) where
+      two : TwoLabels n label a b
       two = v .two z
 
-      first-below : p .first < n
+      first-below : a < n
       first-below = omega (arith, two .rising, two .below)
 
-      mean-p : kept-mean sizes sums (p .first, p .second) ≡ mean n s (cell n t) S (p .first, p .second)
-      mean-p = kept-is (p .first) (p .second) two
+      mean-ab : kept-mean sizes sums (a, b) ≡ mean n s (cell n t) S (a, b)
+      mean-ab = kept-is a b two
 
       -- no two subtrees are taken before
       not-before :
           (x y : ℕ) (lx : x < n) (ly : y < n) → least (S .tree x) < least (S .tree y)
-          → (less (mean n s (cell n t) S (x, y)) (mean n s (cell n t) S (p .first, p .second)) ≡ false)
-          × (less (mean n s (cell n t) S (p .first, p .second)) (mean n s (cell n t) S (x, y)) ≡ false
-          → ((least (S .tree x) < p .first) ⊎ ((least (S .tree x) ≡ p .first) × (least (S .tree y) < p .second))) → ⊥)
+          → (less (mean n s (cell n t) S (x, y)) (mean n s (cell n t) S (a, b)) ≡ false)
+          × (less (mean n s (cell n t) S (a, b)) (mean n s (cell n t) S (x, y)) ≡ false
+          → ((least (S .tree x) < a) ⊎ ((least (S .tree x) ≡ a) × (least (S .tree y) < b))) → ⊥)
       unfolding taken-before
       not-before x y lx ly up =
-          rw (kept-of x y lx ly up, mean-p)
-          at (not-sooner (kept-mean sizes sums) (least (S .tree x), least (S .tree y)) (p .first, p .second)
-          (v .first z _ _ (leaders x y lx ly up) (leader-below w y ly)))
+          rw (kept-of x y lx ly up, mean-ab)
+          at (not-sooner (kept-mean sizes sums) (least (S .tree x), least (S .tree y)) (a, b)
+          (v .first z _ _ (leaders x y lx ly up) (leader-below w x lx)))
 
       small :
           (x y : ℕ) → x < n → y < n → leaves (S .tree x) y ≡ false
-          → less (mean n s (cell n t) S (x, y)) (mean n s (cell n t) S (p .first, p .second)) ≡ false
+          → less (mean n s (cell n t) S (x, y)) (mean n s (cell n t) S (a, b)) ≡ false
       small x y lx ly d = elim (decLt (least (S .tree x)) (least (S .tree y))) [
         | yes up ↦ not-before x y lx ly up .0
         | no g ↦
@@ -103,37 +100,39 @@ module _ {n s : ℕ} {S : State} (w : WellFormed n S) {label m sizes : List ℕ}
 
       not-behind :
           (x y : ℕ) (lx : x < n) (ly : y < n) → least (S .tree x) < least (S .tree y)
-          → less (mean n s (cell n t) S (p .first, p .second)) (mean n s (cell n t) S (x, y)) ≡ false
-          → (p .first < least (S .tree x)) ⊎ ((p .first ≡ least (S .tree x)) × (p .second ≤ least (S .tree y)))
-      not-behind x y lx ly up e = elim (decLt (p .first) (least (S .tree x))) [
+          → less (mean n s (cell n t) S (a, b)) (mean n s (cell n t) S (x, y)) ≡ false
+          → (a < least (S .tree x)) ⊎ ((a ≡ least (S .tree x)) × (b ≤ least (S .tree y)))
+      not-behind x y lx ly up e = elim (decLt a (least (S .tree x))) [
         | yes l ↦ inl l
-        | no g ↦ elim (ℕ-discrete (p .first) (least (S .tree x))) [
+        | no g ↦ elim (ℕ-discrete a (least (S .tree x))) [
           | no d ↦ absurd (not-before x y lx ly up .1 e (inl (omega arith)))
-          | yes q ↦ elim (decLt (least (S .tree y)) (p .second)) [
+          | yes q ↦ elim (decLt (least (S .tree y)) b) [
             | yes l ↦ absurd (not-before x y lx ly up .1 e (inr (sym q, l)))
             | no f ↦ inr (q, omega arith)
           ]
         ]
       ]
 
-      pub chosen-nearest : IsNearest n s (cell n t) S (p .first, p .second)
+      pub chosen-nearest : IsNearest n s (cell n t) S (a, b)
       chosen-nearest = record {
         rising = two .rising;
         below = two .below;
-        different = two-apart w h (p .first) first-below (two .own-first) (p .second) (two .below) (two .own-second)
+        different = two-apart w h a first-below (two .own-first) b (two .below) (two .own-second)
             (λ e. omega (arith, two .rising));
-        least-first = is-least w h (p .first) first-below (two .own-first);
-        least-other = is-least w h (p .second) (two .below) (two .own-second);
+        least-first = is-least w h a first-below (two .own-first);
+        least-other = is-least w h b (two .below) (two .own-second);
         smallest-mean = small;
         ties = λ x y lx ly d up e. not-behind x y lx ly up e;
       }
 
     -- there is a pair where two subtrees are left
     pub chosen-some :
-        {q : ℕ × ℕ} → IsNearest n s (cell n t) S q → (p : Pair) → Chosen n label sizes sums n p → 0 < p .second
-    chosen-some {q} f p v = elim (decLt 0 (p .second)) [
-      | yes l ↦ l
-      | no g ↦
-          let own = h .labels (q .1) (f .below) ∙ f .least-other in
-          absurd (v .none (omega arith) (q .1) (omega (arith, f .rising)) (f .below) own)
-    ]
+        {q : ℕ × ℕ} → IsNearest n s (cell n t) S q → (a b : ℕ) → Chosen n label sizes sums a b → b ≢ n
+    chosen-some {q} f a b v e =
+        let l : q .0 < n = omega (arith, f .rising, f .below) in
+        v .none e (q .0) (q .1) (record {
+          rising = f .rising;
+          below = f .below;
+          own-first = h .labels (q .0) l ∙ f .least-first;
+          own-second = h .labels (q .1) (f .below) ∙ f .least-other;
+        }) l

@@ -19,14 +19,13 @@ use Rattle.state_arrays.specs.inner.Fits.{SmallSums}
 use Rattle.state_arrays.specs.inner.Merged.{MergeReady, Merged}
 use Rattle.state_arrays.proofs.StateArrays.{fair}
 use Rattle.gap_sums.specs.inner.GapSums.{subtree-gaps, SumsFit, Stored}
-use Rattle.nearest_pairs.specs.declared.Pair.{Pair}
-use Rattle.nearest_pairs.specs.inner.Nearest.{TwoLabels, SearchFits, Partners}
-use Rattle.nearest_pairs.specs.inner.Nearest.{Chosen, Outdated}
+use Rattle.nearest_pairs.specs.inner.Nearest.{TwoLabels, SearchFits, Partners, Chosen, Outdated}
 use Rattle.guess_merges.specs.inner.Blocks.{SmallValues, BlockPut}
 use Rattle.guess_merges.specs.inner.Guessing.{GuessGiven, Guessing}
 use Rattle.guess_merges.proofs.Sums.{sums-fit}
 use Rattle.guess_merges.proofs.Choices.{search-fits, chosen-nearest, chosen-some}
-use Rattle.guess_merges.proofs.Turns.{pair-differ, merge-ready, small-values, holds-next, own-next, outdated, guess-turn}
+use Rattle.guess_merges.proofs.Turns.{pair-differ, merge-ready, small-values, holds-next, own-next, outdated}
+use Rattle.guess_merges.proofs.Turns.{guess-turn}
 
 -- k merges of the guess are made, and one more is to be.
 module _ {n s : ℕ} {t p : List ℕ} (g : GuessGiven n s t p) (k : ℕ) (lk : k < n - 1)
@@ -41,21 +40,15 @@ module _ {n s : ℕ} {t p : List ℕ} (g : GuessGiven n s t p) (k : ℕ) (lk : k
   w = guess-wf n s t halves z k
 
   pub search-ready : SearchFits n label sizes sums
-  search-ready = search-fits w (h .holds) z (g .given .leaf-count .1) sums (h .small)
+  search-ready = search-fits w (h .holds) (g .given .leaf-count .1) sums (h .small)
 
   -- the pair that the search takes
-  module _ {pair : Pair} (v : Chosen n label sizes sums n pair) where
-    some : 0 < pair .second
-    some = chosen-some w (h .holds) t sums halves (h .kept) (guess-at n s t halves z k lk) pair v
+  module _ {a b : ℕ} (v : Chosen n label sizes sums a b) where
+    some : b ≢ n
+    some = chosen-some w (h .holds) t sums halves (h .kept) (guess-at n s t halves z k lk) a b v
 
-    two : TwoLabels n label (pair .first) (pair .second)
+    two : TwoLabels n label a b
     two = v .two some
-
-    abbrev a : ℕ
-    a = pair .first
-
-    abbrev b : ℕ
-    b = pair .second
 
     first-below : a < n
     first-below = omega (arith, two .rising, two .below)
@@ -91,10 +84,13 @@ module _ {n s : ℕ} {t p : List ℕ} (g : GuessGiven n s t p) (k : ℕ) (lk : k
 
       module _ {sums′ : List ℕ} (q : Stored n a n (subtree-gaps n t label′ m′ sizes′ p a) sums sums′) where
         pub partners-ready :
-            SearchFits n label′ sizes′ sums′ × (getD label′ a 0 ≡ a) × (length partners ≡ most-leaves)
-            × ((j : ℕ) → 0 < j → j < n → getD label′ j 0 ≡ j → Outdated label′ sizes′ sums′ a b j (getD partners j 0))
+            SearchFits n label′ sizes′ sums′ × (a < b) × (b < n) × (getD label′ a 0 ≡ a)
+            × (length partners ≡ most-leaves)
+            × ((i : ℕ) → i < n → getD label′ i 0 ≡ i → Outdated n label′ sizes′ sums′ a b i (getD partners i 0))
         partners-ready = (
-          search-fits wf′ (holds-next g w h two r) z (g .given .leaf-count .1) sums′ (q .fits),
+          search-fits wf′ (holds-next g w h two r) (g .given .leaf-count .1) sums′ (q .fits),
+          two .rising,
+          two .below,
           own-next g w h two r,
           h .partners-long,
           outdated g w h two r q,
@@ -106,6 +102,6 @@ module _ {n s : ℕ} {t p : List ℕ} (g : GuessGiven n s t p) (k : ℕ) (lk : k
             → (length partners′ ≡ most-leaves) × Partners n label′ sizes′ sums′ partners′
             → Guessing n s t label′ m′ sizes′ sums′ partners′ own′ (k + 1)
         merge-made put found =
-            let near = chosen-nearest w (h .holds) t sums halves (h .kept) pair some v in
+            let near = chosen-nearest w (h .holds) t sums halves (h .kept) a b some v in
             let same = guess-next n s t halves z k lk (a, b) near .1 in
             rw same (guess-turn g w h two r q put (found .0) (found .1))

@@ -95,7 +95,7 @@ module _ {n s : ℕ} {t p : List ℕ} (g : GuessGiven n s t p) {label : List ℕ
   pub start-search :
       SearchFits n label (replicate most-leaves 1) sums × ((k : ℕ) → k < n → getD label k 0 ≡ k)
   start-search = (
-    search-fits (wf-start n) (holds-start n few {s = s} e) (omega (arith, g .given .leaf-count)) few sums start-small,
+    search-fits (wf-start n) (holds-start n few {s = s} e) few sums start-small,
     filled-own n few e,
   )
 

@@ -1,6 +1,7 @@
--- One merge of the guess: the arrays hold the next state. The idea: a merge changes the sums and the partners of the new
--- subtree alone, and the values written are those expected of the cells that it brings together.
-use mathlib.Core.Path.{_≡_, ap, sym, _∙_}
+-- One merge of the guess: the arrays hold the next state. The idea: a merge changes the sums of the new subtree alone,
+-- so that all other pairs keep their order; and the values written are those expected of the cells that it brings
+-- together.
+use mathlib.Core.Path.{_≡_, refl, ap, sym, _∙_}
 use mathlib.Core.Logic.{_≢_}
 use mathlib.Core.Bool.{true, false, _||_}
 use mathlib.Core.List.{List}
@@ -32,8 +33,8 @@ use Rattle.state_arrays.proofs.StateArrays.{expected-is, in-label, label-in}
 use Rattle.gap_sums.specs.inner.PairPlaces.{pair-place, place-of}
 use Rattle.gap_sums.specs.inner.GapSums.{subtree-gaps, Stored}
 use Rattle.gap_sums.proofs.PairPlaces.{place-up, place-down}
-use Rattle.nearest_pairs.specs.inner.Nearest.{kept-mean, taken-before, TwoLabels, Partner, Partners}
-use Rattle.nearest_pairs.specs.inner.Nearest.{Outdated}
+use Rattle.nearest_pairs.specs.inner.Nearest.{kept-mean, taken-before, TwoLabels, TakenFirst, RowBut, Partner}
+use Rattle.nearest_pairs.specs.inner.Nearest.{Partners, Outdated}
 use Rattle.guess_merges.specs.inner.Blocks.{cell-in, SmallValues, BlockPut}
 use Rattle.guess_merges.specs.inner.Guessing.{KeepsGaps, GuessGiven, HoldsGuess}
 use Rattle.guess_merges.proofs.Sums.{subtree-gaps-are}
@@ -92,8 +93,8 @@ module _ {n s : ℕ} {t p : List ℕ} (g : GuessGiven n s t p) {S : State} (w : 
       {own′ : List ℕ} → BlockPut n label m a b (getD p (n - (getD sizes a 0 + getD sizes b 0)) 0) n own own′
       → CellsWithin n s (cell-in n own′) next
   written-next {own′} q =
-      within-written s (cell-in n own) (cell-in n own′) (λ x y lx ly. both-ways n (packed-cells n own′) x y) w (h .written)
-      a b pair-differ kept new
+      within-written s (cell-in n own) (cell-in n own′) (λ x y lx ly. both-ways n (packed-cells n own′) x y) w
+      (h .written) a b pair-differ kept new
     where
       -- two leaves of one subtree are not of a and of b
       apart-labels : (x y : ℕ) → x < n → leaves (S .tree x) y ≡ true → getD label x 0 ≡ a → getD label y 0 ≡ b → ⊥
@@ -145,6 +146,14 @@ module _ {n s : ℕ} {t p : List ℕ} (g : GuessGiven n s t p) {S : State} (w : 
         or-none _ _ (two-apart w (h .holds) a la (two .own-first) x lx o (λ q. za (sym q)))
         (two-apart w (h .holds) b (two .below) (two .own-second) x lx o (λ q. zb (sym q)))
 
+    were : (i j : ℕ) → TwoLabels n label′ i j → i ≢ a → j ≢ a → TwoLabels n label i j
+    were i j v ia ja = record {
+      rising = v .rising;
+      below = v .below;
+      own-first = stood i (omega (arith, v .rising, v .below)) (v .own-first) ia .0;
+      own-second = stood j (v .below) (v .own-second) ja .0;
+    }
+
     sized-same : (x : ℕ) → x ≢ a → getD sizes′ x 0 ≡ getD sizes x 0
     sized-same x z = rw (r .summed) (getD-set-other sizes a x (getD sizes a 0 + getD sizes b 0) 0 z)
 
@@ -156,14 +165,8 @@ module _ {n s : ℕ} {t p : List ℕ} (g : GuessGiven n s t p) {S : State} (w : 
           let li : i < n = omega (arith, v .rising, v .below) in
           let u = stood i li (v .own-first) ia in
           let z = stood j (v .below) (v .own-second) ja in
-          let before : TwoLabels n label i j = record {
-            rising = v .rising;
-            below = v .below;
-            own-first = u .0;
-            own-second = z .0;
-          } in
           q .others i j (v .rising) (v .below) ia ja
-          ∙ h .kept i j before
+          ∙ h .kept i j (were i j v ia ja)
           ∙ sym (gap-sum-keep n s (cell n t) w a b i j (outside i li (u .0) ia (u .1))
           (outside j (v .below) (z .0) ja (z .1)))
           ∙ rw (u .2, z .2)
@@ -198,46 +201,70 @@ module _ {n s : ℕ} {t p : List ℕ} (g : GuessGiven n s t p) {S : State} (w : 
       mean-same i j l lj ia ja = rw (q .others i j l lj ia ja, sized-same i ia, sized-same j ja)
 
       taken-same :
-          (i k j : ℕ) → i < j → k < j → j < n → i ≢ a → k ≢ a → j ≢ a
-          → taken-before sizes′ sums′ (i, j) (k, j) ≡ taken-before sizes sums (i, j) (k, j)
+          (i j k : ℕ) → TwoLabels n label i j → TwoLabels n label i k → i ≢ a → j ≢ a → k ≢ a
+          → taken-before sizes′ sums′ (i, j) (i, k) ≡ taken-before sizes sums (i, j) (i, k)
       unfolding taken-before
-      taken-same i k j li lk lj ia ka ja = rw (mean-same i j li lj ia ja, mean-same k j lk lj ka ja)
+      taken-same i j k v z ia ja ka =
+          rw (mean-same i j (v .rising) (v .below) ia ja, mean-same i k (z .rising) (z .below) ia ka)
 
-      pub outdated :
-          (j : ℕ) → 0 < j → j < n → getD label′ j 0 ≡ j → Outdated label′ sizes′ sums′ a b j (getD partners j 0)
-      outdated j zj lj o = record {
-        before = λ ja. before ja;
-        below = λ aj rb. (old aj) .below;
-        own = λ aj rb. stands r′ (omega (arith, (old aj) .below)) ((old aj) .own) rb;
-        first = λ aj ra rb i l ia oi.
-            let u = stood i (omega arith) oi ia in
-            rw (taken-same i r′ j l ((old aj) .below) lj ia ra (λ z. omega arith)) ((old aj) .first i l (u .0));
-      }
-        where
-          r′ : ℕ
-          r′ = getD partners j 0
+      -- The partner of the label i, from before the merge.
+      module _ (i : ℕ) (li : i < n) (o : getD label′ i 0 ≡ i) where
+        abbrev r′ : ℕ
+        r′ = getD partners i 0
 
-          past : j ≢ a → Partner label sizes sums j j r′
-          past z = h .partnered j zj lj (stood j lj o z .0)
+        old : i ≢ a → Partner n label sizes sums i r′
+        old ia = h .partnered i li (stood i li o ia .0)
 
-          old : a < j → Partner label sizes sums j j r′
-          old aj = past (λ z. omega arith)
-
-          before : j < a → Partner label′ sizes′ sums′ j j r′
-          before ja =
-              let v = past (λ z. omega arith) in
-              let below = v .below in
+        still-first : i ≢ a → r′ ≢ a → r′ ≢ b → TakenFirst n label′ sizes′ sums′ (RowBut i a) i r′
+        still-first ia ra rb = record {
+          none = λ e k l v q. old ia .none e k l (were k l v (λ z. ia (sym (q .0) ∙ z)) (q .1)) (q .0);
+          two = λ d.
+              let z = old ia .two d in
               record {
-                below = below;
-                own = stands r′ (omega arith) (v .own) (λ z. omega (arith, two .rising));
-                first = λ i l oi.
-                    let u = stood i (omega arith) oi (λ z. omega arith) in
-                    rw (taken-same i r′ j l below lj (λ z. omega arith) (λ z. omega arith) (λ z. omega arith))
-                    (v .first i l (u .0));
-              }
+                rising = z .rising;
+                below = z .below;
+                own-first = o;
+                own-second = stands r′ (z .below) (z .own-second) rb;
+              };
+          within = λ d. (refl, ra);
+          first = λ d k l v q.
+              let u = rw (q .0) at (were k l v (λ z. ia (sym (q .0) ∙ z)) (q .1)) in
+              rw (q .0, taken-same i l r′ u (old ia .two d) ia (q .1) ra) (old ia .first d i l u refl);
+        }
+
+        -- after `a`, no pair of i is one with `a`
+        after-first : a < i → r′ ≢ b → Partner n label′ sizes′ sums′ i r′
+        after-first ai rb =
+            let ia : i ≢ a = λ z. omega arith in
+            let ra : r′ ≢ a = λ z. omega (arith, old ia .two (λ e. omega (arith, la)) .rising) in
+            let w = still-first ia ra rb in
+            record {
+              none = λ e k l v q. w .none e k l v (q, λ z. omega (arith, v .rising));
+              two = w .two;
+              within = λ d. refl;
+              first = λ d k l v q. w .first d k l v (q, λ z. omega (arith, v .rising));
+            }
+
+        some-partner : i < a → r′ ≢ n
+        some-partner ia e =
+            let d : i ≢ a = λ z. omega arith in
+            old d .none e i a
+            (record { rising = ia; below = la; own-first = stood i li o d .0; own-second = two .own-first }) refl
+
+        pub outdated : Outdated n label′ sizes′ sums′ a b i r′
+        outdated = record {
+          behind = λ bi.
+              let ai : a < i = omega (arith, two .rising) in
+              after-first ai
+              (λ z. omega (arith, old (λ e. omega arith) .two (λ e. omega (arith, two .below)) .rising));
+          between = after-first;
+          some = some-partner;
+          before = λ ia. still-first (λ z. omega arith);
+        }
 
       pub guess-turn :
-          {own′ partners′ : List ℕ} → BlockPut n label m a b (getD p (n - (getD sizes a 0 + getD sizes b 0)) 0) n own own′
+          {own′ partners′ : List ℕ}
+          → BlockPut n label m a b (getD p (n - (getD sizes a 0 + getD sizes b 0)) 0) n own own′
           → length partners′ ≡ most-leaves → Partners n label′ sizes′ sums′ partners′
           → HoldsGuess n s t label′ m′ sizes′ sums′ partners′ own′ next
       guess-turn put long found = record {

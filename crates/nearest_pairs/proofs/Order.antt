@@ -1,6 +1,6 @@
--- Which of two pairs is taken first, by their means and, of equal means, in row order: that is transitive, and so is its
--- contrary. So the pair that is taken first of some is found by comparing each with the best so far.
-use mathlib.Core.Path.{_≡_, refl}
+-- Which of two pairs is taken first, by their means and, of equal means, in row order: that is transitive, and so is
+-- its contrary. So the pair that is taken first of some is found by comparing each with the best so far.
+use mathlib.Core.Path.{_≡_}
 use mathlib.Core.Logic.{_⊎_, inl, inr}
 use mathlib.Core.Bool.{Bool, true, false, not, _&&_, _||_}
 use Prim.Native.Nat.{ℕ, _<_}
@@ -9,12 +9,12 @@ use native.Mathlib.Decide.{decLt}
 use borrow.Author.Tests.{ltb-true, eqb-true, lt-ltb, eq-eqb, not-true}
 use lib.Dec.{ltb, eqb}
 use Rattle.base.specs.Numbers.{Fraction, less}
-use Rattle.base.proofs.Bools.{bool?, never, is-false, or-left, or-right, or-cases, or-neither, and-both, and-is}
+use Rattle.base.proofs.Bools.{never, is-false, or-left, or-right, or-cases, or-neither, and-both, and-is}
 use Rattle.base.proofs.Fractions.{less-irr, less-trans, less-mid, less-low}
 use Rattle.nearest_pairs.specs.inner.Nearest.{in-order}
 
 -- Row order, as a statement and back.
-abbrev Before : ℕ × ℕ → ℕ × ℕ → Type 0
+abbrev pub Before : ℕ × ℕ → ℕ × ℕ → Type 0
 Before p q = (p .0 < q .0) ⊎ ((p .0 ≡ q .0) × (p .1 < q .1))
 
 order-is : (p q : ℕ × ℕ) → in-order p q ≡ true → Before p q

@@ -1,23 +1,30 @@
--- The search, step by step: a label's partner once one label more is looked at, the pair that is taken first once one
--- row more is, and the partners after a merge.
-use mathlib.Core.Path.{_≡_, refl, sym}
+-- The search, step by step: the pair that is taken first of some pairs once more are looked at, a label's partner, and
+-- the partners after a merge.
+use mathlib.Core.Path.{_≡_, refl, ap}
 use mathlib.Core.Logic.{_⊎_, inl, inr, _≢_}
 use mathlib.Core.Bool.{Bool, true, false}
 use mathlib.Core.List.{List}
-use Prim.Native.Nat.{ℕ, _+_, _*_, _^_, _≤_, _<_}
+use Prim.Native.Nat.{ℕ, _+_, _*_, _≤_, _<_}
 use native.Mathlib.Nat.{mul-pos, mul-le-mul}
 use native.Mathlib.Omega.{arith}
 use native.Mathlib.Decide.{ℕ-discrete}
+use borrow.Author.Tests.{lt-ltb}
 use lib.ListN.{length, getD, set}
 use lib.Seq.{getD-set-same, getD-set-other}
 use Rattle.base.specs.Numbers.{Fraction, less}
-use Rattle.base.proofs.Bools.{never, is-false}
+use Rattle.base.proofs.Bools.{bool?, never, is-false}
 use Rattle.limits.specs.Limits.{most-leaves}
 use Rattle.gap_sums.specs.inner.PairPlaces.{pair-place}
 use Rattle.nearest_pairs.specs.declared.Pair.{Pair}
-use Rattle.nearest_pairs.specs.inner.Nearest.{kept-mean, in-order, taken-before, TwoLabels, SearchFits, Partner}
-use Rattle.nearest_pairs.specs.inner.Nearest.{Chosen, Outdated}
-use Rattle.nearest_pairs.proofs.Order.{sooner, sooner-trans, later-trans, sooner-irr}
+use Rattle.nearest_pairs.specs.inner.Nearest.{kept-mean, taken-before, TwoLabels, SearchFits, TakenFirst, Rows}
+use Rattle.nearest_pairs.specs.inner.Nearest.{Row, RowTo, RowBut, Partner, Outdated, pair-mean, kept-pair}
+use Rattle.nearest_pairs.specs.inner.Nearest.{SmallPair, Smaller, Best}
+use Rattle.nearest_pairs.proofs.Order.{Before, is-order, sooner-less, sooner-tie, sooner-trans, later-trans}
+use Rattle.nearest_pairs.proofs.Order.{sooner-irr}
+
+-- in a row that is looked at up to c, and in the one further
+row-more : (i c k l : ℕ) → RowTo i (c + 1) k l → l ≢ c → RowTo i c k l
+row-more i c k l r d = (r .0, omega (arith, r .1))
 
 module _ {n : ℕ} {label sizes sums : List ℕ} (fit : SearchFits n label sizes sums) where
   abbrev f : ℕ × ℕ → Fraction
@@ -30,28 +37,27 @@ module _ {n : ℕ} {label sizes sums : List ℕ} (fit : SearchFits n label sizes
   pos : (i j : ℕ) → TwoLabels n label i j → 0 < f (i, j) .1
   unfolding kept-mean
   pos i j t =
-      mul-pos (fit .filled i (omega (arith, t .rising, t .below)) (t .own-first)) (fit .filled j (t .below) (t .own-second))
+      mul-pos (fit .filled i (omega (arith, t .rising, t .below)) (t .own-first))
+      (fit .filled j (t .below) (t .own-second))
 
-  -- what the number of their cells asks, and that no product with a sum wraps
-  pub cells-fit :
+  -- what their pair asks of the arrays, and that no product with it wraps
+  pub pair-fits :
       {i j : ℕ} → TwoLabels n label i j
-      → (i < most-leaves) × (j < most-leaves) × (getD sizes i 0 ≤ most-leaves) × (getD sizes j 0 ≤ most-leaves)
-  cells-fit {i} {j} t =
-      let li : i < n = omega (arith, t .rising, t .below) in (
-        omega (arith, fit .few),
-        omega (arith, fit .few, t .below),
-        fit .sized i li (t .own-first),
-        fit .sized j (t .below) (t .own-second),
-      )
+      → (i < j) × (j < most-leaves) × (getD sizes i 0 ≤ most-leaves) × (getD sizes j 0 ≤ most-leaves)
+  pair-fits {i} {j} t = (
+    t .rising,
+    omega (arith, fit .few, t .below),
+    fit .sized i (omega (arith, t .rising, t .below)) (t .own-first),
+    fit .sized j (t .below) (t .own-second),
+  )
 
-  pub product-fits :
-      {i j v c : ℕ} → TwoLabels n label i j → v ≡ getD sums (pair-place i j) 0 → c ≤ most-leaves * most-leaves
-      → v * c < 2 ^ 64
-  product-fits {i} {j} t e h =
-      let small = rw (← e) at (fit .small .small i j (t .rising) (t .below)) in
-      omega (arith, mul-le-mul small h)
+  pub pair-small : {i j : ℕ} → TwoLabels n label i j → SmallPair (kept-pair sizes sums i j)
+  pair-small {i} {j} t = record {
+    sum-most = fit .small .small i j (t .rising) (t .below);
+    cells-most = mul-le-mul (pair-fits t .2) (pair-fits t .3);
+  }
 
-  -- the order of pairs, of labels
+  -- the order of pairs of labels
   module _ {i j k l u v : ℕ} (p : TwoLabels n label i j) (q : TwoLabels n label k l) (r : TwoLabels n label u v) where
     taken-trans : taken (i, j) (k, l) ≡ true → taken (k, l) (u, v) ≡ true → taken (i, j) (u, v) ≡ true
     unfolding taken-before
@@ -65,153 +71,266 @@ module _ {n : ℕ} {label sizes sums : List ℕ} (fit : SearchFits n label sizes
   unfolding taken-before
   itself i j = sooner-irr f (i, j)
 
-  -- what is taken before r is not taken before by what r is not
-  module _ {i j k l u v : ℕ} (p : TwoLabels n label i j) (q : TwoLabels n label k l) (r : TwoLabels n label u v) where
-    still-first : taken (i, j) (u, v) ≡ false → taken (k, l) (u, v) ≡ true → taken (i, j) (k, l) ≡ false
-    still-first h t = is-false (taken (i, j) (k, l)) (λ s. never (taken-trans p q r s t) h)
+  module _ {i j u v : ℕ} (p : TwoLabels n label i j) (q : TwoLabels n label u v) where
+    -- of two pairs one is not taken before the other
+    pub one-way : taken (i, j) (u, v) ≡ true → taken (u, v) (i, j) ≡ false
+    one-way t = is-false (taken (u, v) (i, j)) (λ s. never (taken-trans p q p t s) (itself i j))
+
+    -- by their means alone, where (i, j) comes first in row order
+    smaller-taken : less (f (u, v)) (f (i, j)) ≡ true → taken (u, v) (i, j) ≡ true
+    unfolding taken-before
+    smaller-taken s = sooner-less f (u, v) (i, j) s
+
+    earlier-taken : Before (i, j) (u, v) → less (f (u, v)) (f (i, j)) ≡ false → taken (i, j) (u, v) ≡ true
+    unfolding taken-before
+    earlier-taken b s = sooner-tie f (i, j) (u, v) s (is-order (i, j) (u, v) b)
+
+  -- The pairs R have been looked at: those among Q before, and others that are not taken before (u, v).
+  module _ {Q : ℕ → ℕ → Type 0} {i j : ℕ} (h : TakenFirst n label sizes sums Q i j) (R : ℕ → ℕ → Type 0) where
+    pub first-same :
+        ((k l : ℕ) → TwoLabels n label k l → R k l → Q k l) → (j ≢ n → R i j) → TakenFirst n label sizes sums R i j
+    first-same back m = record {
+      none = λ e k l p r. h .none e k l p (back k l p r);
+      two = h .two;
+      within = m;
+      first = λ d k l p r. h .first d k l p (back k l p r);
+    }
+
+    module _ {u v : ℕ} (t : TwoLabels n label u v)
+        (cover : (k l : ℕ) → TwoLabels n label k l → R k l → (Q k l) ⊎ (taken (k, l) (u, v) ≡ false)) where
+      pub first-new : R u v → (j ≢ n → taken (i, j) (u, v) ≡ false) → TakenFirst n label sizes sums R u v
+      first-new m s = record {
+        none = λ e. absurd (omega (arith, t .below));
+        two = λ _. t;
+        within = λ _. m;
+        first = λ _ k l p r. elim (cover k l p r) [
+          | inl q ↦ elim (ℕ-discrete j n) [
+            | yes e ↦ absurd (h .none e k l p q)
+            | no d ↦ not-taken-trans p (h .two d) t (h .first d k l p q) (s d)
+          ]
+          | inr g ↦ g
+        ];
+      }
+
+      pub first-keep : R i j → j ≢ n → taken (u, v) (i, j) ≡ false → TakenFirst n label sizes sums R i j
+      first-keep m d s = record {
+        none = λ e. absurd (d e);
+        two = h .two;
+        within = λ _. m;
+        first = λ _ k l p r. elim (cover k l p r) [
+          | inl q ↦ h .first d k l p q
+          | inr g ↦ not-taken-trans p t (h .two d) g s
+        ];
+      }
+
+  -- The same with what is kept of the pairs: (u, v) comes later in row order, and the one of the smaller mean is taken.
+  module _ {Q : ℕ → ℕ → Type 0} {best : Pair} (h : Best n label sizes sums Q best) where
+    pub best-small : SmallPair best
+    best-small = elim (ℕ-discrete (best .second) n) [
+      | yes e ↦ record {
+        sum-most = omega (arith, h .above e .0);
+        cells-most = omega (arith, h .above e .1);
+      }
+      | no d ↦ rw (h .kept d) (pair-small (h .taken .two d))
+    ]
+
+    pub best-same :
+        (R : ℕ → ℕ → Type 0) → ((k l : ℕ) → TwoLabels n label k l → R k l → Q k l)
+        → (best .second ≢ n → R (best .first) (best .second)) → Best n label sizes sums R best
+    best-same R back m = record { taken = first-same (h .taken) R back m; kept = h .kept; above = h .above }
+
+    module _ (R : ℕ → ℕ → Type 0) {u v : ℕ} (t : TwoLabels n label u v)
+        (cover : (k l : ℕ) → TwoLabels n label k l → R k l → (Q k l) ⊎ (taken (k, l) (u, v) ≡ false))
+        (later : best .second ≢ n → Before (best .first, best .second) (u, v)) (m : R u v)
+        (still : best .second ≢ n → R (best .first) (best .second)) where
+      -- what is none is above every mean
+      above-all : best .second ≡ n → less (pair-mean (kept-pair sizes sums u v)) (pair-mean best) ≡ true
+      unfolding less kept-mean
+      above-all e =
+          let p = pos u v t in
+          rw (h .above e .0, h .above e .1)
+          (lt-ltb (getD sums (pair-place u v) 0 * 0) (1 * (getD sizes u 0 * getD sizes v 0)) (omega (arith, p)))
+
+      best-mean : best .second ≢ n → pair-mean best ≡ f (best .first, best .second)
+      unfolding kept-mean
+      best-mean d = ap pair-mean (h .kept d)
+
+      new-best : less (pair-mean (kept-pair sizes sums u v)) (pair-mean best) ≡ true
+          → Best n label sizes sums R (kept-pair sizes sums u v)
+      unfolding kept-mean
+      new-best s = record {
+        taken = first-new (h .taken) R t cover m (λ d.
+            one-way t (h .taken .two d) (smaller-taken (h .taken .two d) t (rw (best-mean d) at s)));
+        kept = λ _. refl;
+        above = λ e. absurd (omega (arith, t .below));
+      }
+
+      same-best : less (pair-mean (kept-pair sizes sums u v)) (pair-mean best) ≡ false → Best n label sizes sums R best
+      unfolding kept-mean
+      same-best s =
+          let d : best .second ≢ n = λ e. never (above-all e) s in
+          record {
+            taken = first-keep (h .taken) R t cover (still d) d
+                (one-way (h .taken .two d) t (earlier-taken (h .taken .two d) t (later d) (rw (best-mean d) at s)));
+            kept = h .kept;
+            above = h .above;
+          }
+
+      pub best-turn : {r : Pair} → Smaller best (kept-pair sizes sums u v) r → Best n label sizes sums R r
+      best-turn w = elim (bool? (less (pair-mean (kept-pair sizes sums u v)) (pair-mean best))) [
+        | inl s ↦ rw (w .less-is s) (new-best s)
+        | inr s ↦ rw (w .else-is s) (same-best s)
+      ]
 
   two : (i j : ℕ) → i < j → j < n → getD label i 0 ≡ i → getD label j 0 ≡ j → TwoLabels n label i j
   two i j l m oi oj = record { rising = l; below = m; own-first = oi; own-second = oj }
 
-  -- The partner of j, once the label i is looked at.
-  module _ {i j best : ℕ} (ij : i < j) (jn : j < n) (oj : getD label j 0 ≡ j)
-      (h : Partner label sizes sums j i best) where
-    pub partner-skip : getD label i 0 ≢ i → Partner label sizes sums j (i + 1) best
-    partner-skip d = record {
-      below = omega (arith, h .below);
-      own = h .own;
-      first = λ k l o. elim (ℕ-discrete k i) [
-        | yes e ↦ absurd (d (rw e at o))
-        | no g ↦ h .first k (omega arith) o
-      ];
-    }
-
-    pub best-two : TwoLabels n label best j
-    best-two = two best j (omega (arith, h .below)) jn (h .own) oj
-
-    module _ (oi : getD label i 0 ≡ i) where
-      pub partner-new : taken (i, j) (best, j) ≡ true → Partner label sizes sums j (i + 1) i
-      partner-new t = record {
-        below = omega arith;
-        own = oi;
-        first = λ k l o. elim (ℕ-discrete k i) [
-          | yes e ↦ rw e (itself i j)
-          | no g ↦
-              still-first (two k j (omega arith) jn o oj) (two i j ij jn oi oj) best-two (h .first k (omega arith) o) t
-        ];
-      }
-
-      pub partner-keep : taken (i, j) (best, j) ≡ false → Partner label sizes sums j (i + 1) best
-      partner-keep t = record {
-        below = omega (arith, h .below);
-        own = h .own;
-        first = λ k l o. elim (ℕ-discrete k i) [ yes e ↦ rw e t | no g ↦ h .first k (omega arith) o ];
-      }
-
-  pub partner-start : {j : ℕ} → Partner label sizes sums j 1 0
-  partner-start {j} = record {
-    below = omega arith;
-    own = fit .zero-own;
-    first = λ i l o. let e : i ≡ 0 = omega arith in rw e (itself 0 j);
+  -- The partner of i, once j is looked at.
+  pub row-start :
+      {i : ℕ} → Best n label sizes sums (RowTo i (i + 1)) (record { first = i; second = n; sum = 1; cells = 0 })
+  row-start {i} = record {
+    taken = record {
+      none = λ e k l p r. omega (arith, p .rising, r .0, r .1);
+      two = λ d. absurd (d refl);
+      within = λ d. absurd (d refl);
+      first = λ d. absurd (d refl);
+    };
+    kept = λ d. absurd (d refl);
+    above = λ e. (refl, refl);
   }
 
-  -- The pair that is taken first, once the row of j is looked at.
-  module _ {j : ℕ} {best : Pair} (zj : 0 < j) (jn : j < n) (h : Chosen n label sizes sums j best) where
-    pub chosen-skip : getD label j 0 ≢ j → Chosen n label sizes sums (j + 1) best
-    chosen-skip d = record {
-      none = λ z k zk l. elim (ℕ-discrete k j) [ yes e ↦ rw e d | no g ↦ h .none z k zk (omega arith) ];
-      two = h .two;
-      first = λ z i k t l. elim (ℕ-discrete k j) [
-        | yes e ↦ absurd (d (rw e at (t .own-second)))
-        | no g ↦ h .first z i k t (omega arith)
-      ];
-    }
+  module _ {i j : ℕ} {best : Pair} (h : Best n label sizes sums (RowTo i j) best) where
+    row-still : best .second ≢ n → RowTo i (j + 1) (best .first) (best .second)
+    row-still d = (h .taken .within d .0, omega (arith, h .taken .within d .1))
 
-    module _ (oj : getD label j 0 ≡ j) {r : ℕ} (p : Partner label sizes sums j j r) where
-      pub row-two : TwoLabels n label r j
-      row-two = two r j (p .below) jn (p .own) oj
+    pub row-skip : getD label j 0 ≢ j → Best n label sizes sums (RowTo i (j + 1)) best
+    row-skip o =
+        best-same h (RowTo i (j + 1)) (λ k l p r. row-more i j k l r (λ e. o (rw e at (p .own-second)))) row-still
 
-      in-row : (i : ℕ) → TwoLabels n label i j → taken (i, j) (r, j) ≡ false
-      in-row i t = p .first i (t .rising) (t .own-first)
+    pub row-turn :
+        {r : Pair} → TwoLabels n label i j → Smaller best (kept-pair sizes sums i j) r
+        → Best n label sizes sums (RowTo i (j + 1)) r
+    row-turn t w =
+        best-turn h (RowTo i (j + 1)) t cover (λ d. inr (h .taken .within d)) (refl, omega arith) row-still w
+      where
+        cover :
+            (k l : ℕ) → TwoLabels n label k l → RowTo i (j + 1) k l → (RowTo i j k l) ⊎ (taken (k, l) (i, j) ≡ false)
+        cover k l p r = elim (ℕ-discrete l j) [
+          | yes e ↦ inr (rw (r .0, e) (itself i j))
+          | no d ↦ inl (row-more i j k l r d)
+        ]
 
-      abbrev new : Pair
-      new = record { first = r; second = j }
-
-      pub chosen-first : best .second ≡ 0 → Chosen n label sizes sums (j + 1) new
-      chosen-first z = record {
-        none = λ e. absurd (omega arith);
-        two = λ _. row-two;
-        first = λ _ i k t l. elim (ℕ-discrete k j) [
-          | yes e ↦ rw e (in-row i (rw e at t))
-          | no g ↦ absurd (h .none z k (omega (arith, t .rising)) (omega arith) (t .own-second))
-        ];
-      }
-
-      pub chosen-new :
-          0 < best .second → taken (r, j) (best .first, best .second) ≡ true → Chosen n label sizes sums (j + 1) new
-      chosen-new z s = record {
-        none = λ e. absurd (omega arith);
-        two = λ _. row-two;
-        first = λ _ i k t l. elim (ℕ-discrete k j) [
-          | yes e ↦ rw e (in-row i (rw e at t))
-          | no g ↦ still-first t row-two (h .two z) (h .first z i k t (omega arith)) s
-        ];
-      }
-
-      pub chosen-keep :
-          0 < best .second → taken (r, j) (best .first, best .second) ≡ false → Chosen n label sizes sums (j + 1) best
-      chosen-keep z s = record {
-        none = λ e. absurd (omega arith);
-        two = h .two;
-        first = λ _ i k t l. elim (ℕ-discrete k j) [
-          | yes e ↦ rw e (not-taken-trans (rw e at t) row-two (h .two z) (in-row i (rw e at t)) s)
-          | no g ↦ h .first z i k t (omega arith)
-        ];
-      }
-
-  pub chosen-start : {p : Pair} → p .second ≡ 0 → Chosen n label sizes sums 1 p
-  chosen-start z = record {
-    none = λ e k zk l. absurd (omega arith);
-    two = λ q. absurd (omega arith);
-    first = λ q. absurd (omega arith);
+  -- the whole row is looked at
+  pub row-end :
+      {i : ℕ} {best : Pair} → Best n label sizes sums (RowTo i n) best → Partner n label sizes sums i (best .second)
+  row-end {i} {best} h = record {
+    none = λ e k l p r. h .taken .none e k l p (r, p .below);
+    two = λ d. rw (h .taken .within d .0) at (h .taken .two d);
+    within = λ d. refl;
+    first = λ d k l p r.
+        rw (h .taken .within d .0) at (h .taken .first d k l p (r, p .below));
   }
 
-  -- The partner of the label j after a merge of a and b.
-  module _ {a b j old : ℕ} (oa : getD label a 0 ≡ a) (jn : j < n) (oj : getD label j 0 ≡ j)
-      (h : Outdated label sizes sums a b j old) (aj : a < j) (da : old ≢ a) (db : old ≢ b) where
-    pub old-two : TwoLabels n label old j
-    old-two = two old j (h .below aj db) jn (h .own aj db) oj
+  -- The pair that is taken first, once the row of i is looked at.
+  pub rows-start : Best n label sizes sums (Rows 0) (record { first = 0; second = n; sum = 1; cells = 0 })
+  rows-start = record {
+    taken = record {
+      none = λ e k l p r. omega arith;
+      two = λ d. absurd (d refl);
+      within = λ d. absurd (d refl);
+      first = λ d. absurd (d refl);
+    };
+    kept = λ d. absurd (d refl);
+    above = λ e. (refl, refl);
+  }
 
-    pub new-two : TwoLabels n label a j
-    new-two = two a j aj jn oa oj
+  module _ {i : ℕ} {best : Pair} (h : Best n label sizes sums (Rows i) best) where
+    rows-still : best .second ≢ n → Rows (i + 1) (best .first) (best .second)
+    rows-still d = omega (arith, h .taken .within d)
 
-    pub renewed-new : taken (a, j) (old, j) ≡ true → Partner label sizes sums j j a
-    renewed-new t = record {
-      below = aj;
-      own = oa;
-      first = λ i l o. elim (ℕ-discrete i a) [
-        | yes e ↦ rw e (itself a j)
-        | no d ↦ still-first (two i j l jn o oj) new-two old-two (h .first aj da db i l d o) t
-      ];
-    }
+    -- where there is none in it
+    pub rows-skip : ((l : ℕ) → TwoLabels n label i l → ⊥) → Best n label sizes sums (Rows (i + 1)) best
+    rows-skip o =
+        best-same h (Rows (i + 1)) (λ k l p r. elim (ℕ-discrete k i) [
+          | yes e ↦ absurd (o l (rw e at p))
+          | no d ↦ omega arith
+        ]) rows-still
 
-    pub renewed-keep : taken (a, j) (old, j) ≡ false → Partner label sizes sums j j old
-    renewed-keep t = record {
-      below = h .below aj db;
-      own = h .own aj db;
-      first = λ i l o. elim (ℕ-discrete i a) [ yes e ↦ rw e t | no d ↦ h .first aj da db i l d o ];
-    }
+    pub rows-turn :
+        {j : ℕ} {r : Pair} → Partner n label sizes sums i j → j ≢ n → Smaller best (kept-pair sizes sums i j) r
+        → Best n label sizes sums (Rows (i + 1)) r
+    rows-turn {j} q d w =
+        best-turn h (Rows (i + 1)) (q .two d) cover (λ g. inl (h .taken .within g)) (omega arith) rows-still w
+      where
+        cover :
+            (k l : ℕ) → TwoLabels n label k l → Rows (i + 1) k l → (Rows i k l) ⊎ (taken (k, l) (i, j) ≡ false)
+        cover k l p r = elim (ℕ-discrete k i) [
+          | yes e ↦ inr (q .first d k l p e)
+          | no g ↦ inl (omega arith)
+        ]
 
--- The partners of the labels below j are found; one more is.
-abbrev pub PartnersTo : (label sizes sums : List ℕ) (j : ℕ) (partners : List ℕ) → Type 0
-PartnersTo label sizes sums j partners =
-    (k : ℕ) → 0 < k → k < j → getD label k 0 ≡ k → Partner label sizes sums k k (getD partners k 0)
+  -- Of two pairs of i, by the one whose mean is smaller.
+  pub nearer-is :
+      {i j k : ℕ} {r : Pair} → TwoLabels n label i j → TwoLabels n label i k → j < k
+      → Smaller (kept-pair sizes sums i j) (kept-pair sizes sums i k) r
+      → (taken (i, k) (i, j) ≡ true → r .second ≡ k) × (taken (i, k) (i, j) ≡ false → r .second ≡ j)
+  unfolding kept-mean
+  nearer-is {i} {j} {k} p q l w = elim (bool? (less (f (i, k)) (f (i, j)))) [
+    | inl s ↦ (λ t. ap (λ (x : Pair). x .second) (w .less-is s), λ t. absurd (never (smaller-taken p q s) t))
+    | inr s ↦ (
+      λ t. absurd (never t (one-way p q (earlier-taken p q (inr (refl, l)) s))),
+      λ t. ap (λ (x : Pair). x .second) (w .else-is s),
+    )
+  ]
+
+  -- The partner of the label i, which comes before a, after a merge of a and b.
+  module _ {a b i old : ℕ} (an : a < n) (oa : getD label a 0 ≡ a) (oi : getD label i 0 ≡ i)
+      (h : Outdated n label sizes sums a b i old) (ia : i < a) (da : old ≢ a) (db : old ≢ b) where
+    was : TakenFirst n label sizes sums (RowBut i a) i old
+    was = h .before ia da db
+
+    pub old-two : TwoLabels n label i old
+    old-two = was .two (h .some ia)
+
+    pub new-two : TwoLabels n label i a
+    new-two = two i a ia an oi oa
+
+    cover : (k l : ℕ) → TwoLabels n label k l → Row i k l → (RowBut i a k l) ⊎ (taken (k, l) (i, a) ≡ false)
+    cover k l p r = elim (ℕ-discrete l a) [ yes e ↦ inr (rw (r, e) (itself i a)) | no d ↦ inl (r, d) ]
+
+    pub renewed-new : taken (i, old) (i, a) ≡ false → Partner n label sizes sums i a
+    renewed-new s = first-new was (Row i) new-two cover refl (λ _. s)
+
+    pub renewed-keep : taken (i, a) (i, old) ≡ false → Partner n label sizes sums i old
+    renewed-keep s = first-keep was (Row i) new-two cover refl (h .some ia) s
+
+    -- by the one that is taken first
+    pub renewed-up :
+        {r : ℕ} → (taken (i, a) (i, old) ≡ true → r ≡ a) × (taken (i, a) (i, old) ≡ false → r ≡ old)
+        → Partner n label sizes sums i r
+    renewed-up w = elim (bool? (taken (i, a) (i, old))) [
+      | inl s ↦ rw (w .0 s) (renewed-new (one-way new-two old-two s))
+      | inr s ↦ rw (w .1 s) (renewed-keep s)
+    ]
+
+    pub renewed-down :
+        {r : ℕ} → (taken (i, old) (i, a) ≡ true → r ≡ old) × (taken (i, old) (i, a) ≡ false → r ≡ a)
+        → Partner n label sizes sums i r
+    renewed-down w = elim (bool? (taken (i, old) (i, a))) [
+      | inl s ↦ rw (w .0 s) (renewed-keep (one-way old-two new-two s))
+      | inr s ↦ rw (w .1 s) (renewed-new s)
+    ]
+
+-- The partners of the labels below c are found; one more is.
+abbrev pub PartnersTo : (n : ℕ) (label sizes sums : List ℕ) (c : ℕ) (partners : List ℕ) → Type 0
+PartnersTo n label sizes sums c partners =
+    (i : ℕ) → i < c → getD label i 0 ≡ i → Partner n label sizes sums i (getD partners i 0)
 
 pub partners-turn :
-    (label sizes sums : List ℕ) (j : ℕ) (partners : List ℕ) (v : ℕ) → j < length partners
-    → PartnersTo label sizes sums j partners → (getD label j 0 ≡ j → Partner label sizes sums j j v)
-    → PartnersTo label sizes sums (j + 1) (set partners j v)
-partners-turn label sizes sums j partners v l h new k zk lk o = elim (ℕ-discrete k j) [
-  | yes e ↦ rw (e, getD-set-same partners j v 0 l) (new (rw e at o))
-  | no d ↦ rw (getD-set-other partners j k v 0 d) (h k zk (omega arith) o)
+    (n : ℕ) (label sizes sums : List ℕ) (c : ℕ) (partners : List ℕ) (v : ℕ) → c < length partners
+    → PartnersTo n label sizes sums c partners → (getD label c 0 ≡ c → Partner n label sizes sums c v)
+    → PartnersTo n label sizes sums (c + 1) (set partners c v)
+partners-turn n label sizes sums c partners v l h new k lk o = elim (ℕ-discrete k c) [
+  | yes e ↦ rw (e, getD-set-same partners c v 0 l) (new (rw e at o))
+  | no d ↦ rw (getD-set-other partners c k v 0 d) (h k (omega arith) o)
 ]

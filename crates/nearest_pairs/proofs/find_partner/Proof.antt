@@ -1,7 +1,7 @@
-use mathlib.Core.Path.{_≡_, refl}
-use Prim.Native.Nat.{ℕ, _+_, _-_, _≤_, _<_}
-use Rattle.nearest_pairs.specs.inner.Nearest.{Partner}
-use Rattle.nearest_pairs.proofs.Search.{partner-start}
+use mathlib.Core.Path.{_≡_}
+use Prim.Native.Nat.{_-_, _≤_, _<_}
+use Rattle.nearest_pairs.specs.inner.Nearest.{RowTo, Best}
+use Rattle.nearest_pairs.proofs.Search.{row-start, row-end}
 use native.Mathlib.Omega.{arith}
 use borrow.Author.Needs.{needs}
 use Rattle.nearest_pairs.proofs.find_partner.Statement.{statement}
@@ -11,38 +11,53 @@ use Rattle.nearest_pairs.proofs.find_partner.Lts as lts
 use Rattle.nearest_pairs.proofs.nearer.Reads as nearer-reads
 
 abbrev Inv-loop : tie.InvT-loop
-Inv-loop n label sizes sums j best₀ i₀ best i = (i ≤ j) × Partner label sizes sums j i best
+Inv-loop n label sizes sums i best₀ j₀ best j = (i < j) × (j ≤ n) × Best n label sizes sums (RowTo i j) best
 
 abbrev μ-loop : tie.MeasureT-loop
-μ-loop n label sizes sums j best₀ i₀ best i = j - i
+μ-loop n label sizes sums i best₀ j₀ best j = n - j
 
--- src/lib.rt:107:5
+-- src/lib.rt:89:24
+add-j : tie.Need-add-j Inv-loop μ-loop
+add-j c = search needs
+
+-- src/lib.rt:90:5
 loop-holds : tie.Need-loop-holds Inv-loop μ-loop
-loop-holds c = (omega arith, partner-start (c .pre .0))
+loop-holds c = (omega arith, omega arith, row-start (c .pre .0))
 
--- src/lib.rt:108:9
+-- src/lib.rt:91:9
 nearer-requires : tie.Need-nearer-requires Inv-loop μ-loop
 nearer-requires c κs =
     let s = c .before .before in
-    (s .pre .0, omega arith, s .pre .2, s .pre .3, c .before .loop .inv .1)
+    (s .pre .0, s .pre .2, omega arith, omega arith, c .before .loop .inv .2)
 
--- src/lib.rt:109:9
-add-i : tie.Need-add-i Inv-loop μ-loop
-add-i c = search needs
+-- src/lib.rt:92:9
+add-j-2 : tie.Need-add-j-2 Inv-loop μ-loop
+add-j-2 c = search needs
 
--- src/lib.rt:107:5
+-- src/lib.rt:90:5
 loop-less : tie.Need-loop-less Inv-loop μ-loop
 loop-less c = omega arith
 
--- src/lib.rt:107:5
+-- src/lib.rt:90:5
 loop-again : tie.Need-loop-again Inv-loop μ-loop
-loop-again c = (omega arith, c .nearer .ensures)
+loop-again c = (omega arith, omega arith, c .nearer .ensures)
 
--- src/lib.rt:95:1
+-- src/lib.rt:73:1
 returns : tie.Need-returns Inv-loop μ-loop
-returns c = let e : c .before .loop .i ≡ c .before .before .args .j = omega arith in rw e at (c .before .loop .inv .1)
+returns c =
+    let e : c .before .loop .j ≡ c .before .before .args .n = omega arith in
+    row-end (c .before .before .pre .0) (rw e at (c .before .loop .inv .2))
 
 pub find-partner-spec : {M : Type 1} → statement M
 find-partner-spec =
     tie.close
-    (tie.spec Inv-loop μ-loop loop-holds nearer-requires add-i loop-less loop-again returns)
+    (tie.spec
+    Inv-loop
+    μ-loop
+    add-j
+    loop-holds
+    nearer-requires
+    add-j-2
+    loop-less
+    loop-again
+    returns)

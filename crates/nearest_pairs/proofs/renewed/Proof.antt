@@ -1,6 +1,7 @@
-use mathlib.Core.Path.{sym, _∙_}
+use mathlib.Core.Logic.{_≢_}
 use Prim.Native.Nat.{_<_}
-use Rattle.nearest_pairs.proofs.Search.{new-two, old-two, renewed-new, renewed-keep}
+use Rattle.nearest_pairs.specs.inner.Nearest.{TwoLabels}
+use Rattle.nearest_pairs.proofs.Search.{new-two, old-two, renewed-up, renewed-down}
 use native.Mathlib.Omega.{arith}
 use borrow.Author.Needs.{needs}
 use Rattle.nearest_pairs.proofs.renewed.Statement.{statement}
@@ -8,74 +9,92 @@ use Rattle.nearest_pairs.proofs.renewed.Tie as tie
 use Rattle.nearest_pairs.proofs.renewed.Reads as reads
 use Rattle.nearest_pairs.proofs.renewed.Lts as lts
 use Rattle.nearest_pairs.proofs.find_partner.Reads as find-partner-reads
-use Rattle.nearest_pairs.proofs.taken_before.Reads as taken-before-reads
+use Rattle.nearest_pairs.proofs.is_stale.Reads as is-stale-reads
+use Rattle.nearest_pairs.proofs.nearer_of_two.Reads as nearer-of-two-reads
 
--- src/lib.rt:211:9
-returns : tie.Need-returns
-returns c = c .before .pre .5 .before (c .if1 .taken)
+-- where the partner is not looked for anew
+fresh :
+    (c : tie.Else2)
+    → let a = c .before .before .before .args in
+    (a .i ≢ a .a) × (a .old ≢ a .a) × (a .old ≢ a .b)
+fresh c = c .before .before .is-stale .ensures (c .before .if1 .left)
 
--- src/lib.rt:214:9
+-- i comes before `a`; its pairs with `a` and with its old partner
+early : (c : tie.Else2) → let a = c .before .before .before .args in a .i < a .a
+early c =
+    let apart = fresh c .0 in
+    let l = c .if2 .left in
+    omega arith
+
+both :
+    (c : tie.Else2)
+    → let a = c .before .before .before .args in
+    TwoLabels (a .n) (a .label .now) (a .i) (a .a) × TwoLabels (a .n) (a .label .now) (a .i) (a .old)
+both c =
+    let s = c .before .before .before in
+    let d = fresh c in (
+      new-two (s .pre .0) (s .pre .1) (s .pre .2) (s .pre .4) (s .pre .5) (early c) (d .1) (d .2),
+      old-two (s .pre .0) (s .pre .1) (s .pre .2) (s .pre .4) (s .pre .5) (early c) (d .1) (d .2),
+    )
+
+-- src/lib.rt:220:8
+is-stale-requires : tie.Need-is-stale-requires
+is-stale-requires c κs = search needs
+
+-- src/lib.rt:221:9
 find-partner-requires : tie.Need-find-partner-requires
 find-partner-requires c κs = search needs
 
--- src/lib.rt:214:9
+-- src/lib.rt:221:9
+returns : tie.Need-returns
+returns c = search needs
+
+-- src/lib.rt:224:9
 returns-2 : tie.Need-returns-2
-returns-2 c = search needs
+returns-2 c =
+    c .before .before .before .pre .5 .between (c .if2 .taken)
+    (c .before .before .is-stale .ensures (c .before .if1 .left) .2)
 
--- src/lib.rt:217:9
-find-partner-requires-2 : tie.Need-find-partner-requires-2
-find-partner-requires-2 c κs = search needs
-
--- src/lib.rt:217:9
-returns-3 : tie.Need-returns-3
-returns-3 c = search needs
-
--- src/lib.rt:220:9
-find-partner-requires-3 : tie.Need-find-partner-requires-3
-find-partner-requires-3 c κs = search needs
-
--- src/lib.rt:220:9
-returns-4 : tie.Need-returns-4
-returns-4 c = search needs
-
--- src/lib.rt:222:8
-taken-before-requires : tie.Need-taken-before-requires
-taken-before-requires c κs =
+-- src/lib.rt:227:9
+nearer-of-two-requires : tie.Need-nearer-of-two-requires
+nearer-of-two-requires c κs =
     let s = c .before .before .before .before in
-    let aj : s .args .a < s .args .j = omega arith in
-    let f = s .pre .0 in (
-      f,
-      new-two f (s .pre .1) (s .pre .3) (s .pre .4) (s .pre .5) aj (c .before .if3 .left) (c .if4 .left),
-      old-two f (s .pre .1) (s .pre .3) (s .pre .4) (s .pre .5) aj (c .before .if3 .left) (c .if4 .left),
-    )
+    let t = both (c .before) in
+    (s .pre .0, t .1, t .0, c .if3 .taken)
 
--- src/lib.rt:223:9
-returns-5 : tie.Need-returns-5
-returns-5 c =
-    let s = c .before .before .before .before .before .before in
-    let aj : s .args .a < s .args .j = omega arith in
-    renewed-new (s .pre .0) (s .pre .1) (s .pre .3) (s .pre .4) (s .pre .5) aj (c .before .before .before .if3 .left) (c .before .before .if4 .left)
-    (sym (c .before .taken-before .ensures) ∙ c .if5 .taken)
+-- src/lib.rt:227:9
+returns-3 : tie.Need-returns-3
+returns-3 c =
+    let s = c .before .before .before .before .before in
+    let d = fresh (c .before .before) in
+    renewed-up (s .pre .0) (s .pre .1) (s .pre .2) (s .pre .4) (s .pre .5) (early (c .before .before)) (d .1) (d .2)
+    (c .nearer-of-two .ensures)
 
--- src/lib.rt:196:1
-returns-6 : tie.Need-returns-6
-returns-6 c =
-    let s = c .before .before .before .before .before .before in
-    let aj : s .args .a < s .args .j = omega arith in
-    renewed-keep (s .pre .0) (s .pre .1) (s .pre .3) (s .pre .4) (s .pre .5) aj (c .before .before .before .if3 .left) (c .before .before .if4 .left)
-    (sym (c .before .taken-before .ensures) ∙ c .if5 .left)
+-- src/lib.rt:229:5
+nearer-of-two-requires-2 : tie.Need-nearer-of-two-requires-2
+nearer-of-two-requires-2 c κs =
+    let s = c .before .before .before .before in
+    let t = both (c .before) in
+    let apart = fresh (c .before) .1 in
+    (s .pre .0, t .0, t .1, omega arith)
+
+-- src/lib.rt:206:1
+returns-4 : tie.Need-returns-4
+returns-4 c =
+    let s = c .before .before .before .before .before in
+    let d = fresh (c .before .before) in
+    renewed-down (s .pre .0) (s .pre .1) (s .pre .2) (s .pre .4) (s .pre .5) (early (c .before .before)) (d .1) (d .2)
+    (c .nearer-of-two2 .ensures)
 
 pub renewed-spec : {M : Type 1} → statement M
 renewed-spec =
     tie.close
     (tie.spec
-    returns
+    is-stale-requires
     find-partner-requires
+    returns
     returns-2
-    find-partner-requires-2
+    nearer-of-two-requires
     returns-3
-    find-partner-requires-3
-    returns-4
-    taken-before-requires
-    returns-5
-    returns-6)
+    nearer-of-two-requires-2
+    returns-4)

@@ -2,7 +2,7 @@
 -- a subtree; `sizes` has the number of leaves of each, and `sums` the gaps of each two (gap_sums).
 use mathlib.Core.Path.{_≡_}
 use mathlib.Core.Logic.{_≢_}
-use mathlib.Core.Bool.{Bool, false, not, _&&_, _||_}
+use mathlib.Core.Bool.{Bool, true, false, not, _&&_, _||_}
 use mathlib.Core.List.{List}
 use Prim.Native.Nat.{ℕ, _*_, _≤_, _<_}
 use lib.Dec.{ltb, eqb}
@@ -10,7 +10,7 @@ use lib.ListN.{getD}
 use Rattle.base.specs.Numbers.{Fraction, less}
 use Rattle.limits.specs.Limits.{most-leaves}
 use Rattle.gap_sums.specs.inner.PairPlaces.{pair-place}
-use Rattle.gap_sums.specs.inner.GapSums.{SmallGaps}
+use Rattle.gap_sums.specs.inner.GapSums.{most-gaps, SmallGaps}
 use Rattle.nearest_pairs.specs.declared.Pair.{Pair}
 
 -- the mean of two subtrees, as it is kept
@@ -35,40 +35,81 @@ pub record TwoLabels (n : ℕ) (label : List ℕ) (i j : ℕ) : Type 0 where
   pub own-first : getD label i 0 ≡ i
   pub own-second : getD label j 0 ≡ j
 
--- what the search asks of the arrays: leaf 0 is a label, and no product wraps or is 0
+-- what the search asks of the arrays: no product wraps or is 0
 pub record SearchFits (n : ℕ) (label sizes sums : List ℕ) : Type 0 where
-  pub some : 0 < n
   pub few : n ≤ most-leaves
-  pub zero-own : getD label 0 0 ≡ 0
   pub filled : (k : ℕ) → k < n → getD label k 0 ≡ k → 0 < getD sizes k 0
   pub sized : (k : ℕ) → k < n → getD label k 0 ≡ k → getD sizes k 0 ≤ most-leaves
   pub small : SmallGaps n sums
 
--- r is a label below c, and of the pairs of such a label and j that of r is taken first
-pub record Partner (label sizes sums : List ℕ) (j c r : ℕ) : Type 0 where
-  pub below : r < c
-  pub own : getD label r 0 ≡ r
-  pub first : (i : ℕ) → i < c → getD label i 0 ≡ i → taken-before sizes sums (i, j) (r, j) ≡ false
+-- of some pairs of labels, (i, j) is taken first; j is n where there is none
+pub record TakenFirst (n : ℕ) (label sizes sums : List ℕ) (among : ℕ → ℕ → Type 0) (i j : ℕ) : Type 0 where
+  pub none : j ≡ n → (k l : ℕ) → TwoLabels n label k l → among k l → ⊥
+  pub two : j ≢ n → TwoLabels n label i j
+  pub within : j ≢ n → among i j
+  pub first : j ≢ n → (k l : ℕ) → TwoLabels n label k l → among k l → taken-before sizes sums (k, l) (i, j) ≡ false
 
--- every label but 0 has its partner among the labels before it
+-- the pairs (k, l) of the labels below c and any, of i and any, of i and those below c, of i and any but a
+abbrev pub Rows : (c k l : ℕ) → Type 0
+Rows c k l = k < c
+
+abbrev pub Row : (i k l : ℕ) → Type 0
+Row i k l = k ≡ i
+
+abbrev pub RowTo : (i c k l : ℕ) → Type 0
+RowTo i c k l = (k ≡ i) × (l < c)
+
+abbrev pub RowBut : (i a k l : ℕ) → Type 0
+RowBut i a k l = (k ≡ i) × (l ≢ a)
+
+-- r is the partner of the label i: of the pairs of i and a label after it, that of r is taken first
+abbrev pub Partner : (n : ℕ) (label sizes sums : List ℕ) (i r : ℕ) → Type 0
+Partner n label sizes sums i r = TakenFirst n label sizes sums (Row i) i r
+
+-- every label has its partner among the labels after it
 abbrev pub Partners : (n : ℕ) (label sizes sums partners : List ℕ) → Type 0
 Partners n label sizes sums partners =
-    (j : ℕ) → 0 < j → j < n → getD label j 0 ≡ j → Partner label sizes sums j j (getD partners j 0)
+    (i : ℕ) → i < n → getD label i 0 ≡ i → Partner n label sizes sums i (getD partners i 0)
 
--- of the pairs of labels below c, that of p is taken first; its second label is 0 where there is none
-pub record Chosen (n : ℕ) (label sizes sums : List ℕ) (c : ℕ) (p : Pair) : Type 0 where
-  pub none : p .second ≡ 0 → (j : ℕ) → 0 < j → j < c → getD label j 0 ≢ j
-  pub two : 0 < p .second → TwoLabels n label (p .first) (p .second)
-  pub first :
-      0 < p .second → (i j : ℕ) → TwoLabels n label i j → j < c
-      → taken-before sizes sums (i, j) (p .first, p .second) ≡ false
+-- of all pairs of labels (i, j) is taken first
+abbrev pub Chosen : (n : ℕ) (label sizes sums : List ℕ) (i j : ℕ) → Type 0
+Chosen n label sizes sums i j = TakenFirst n label sizes sums (Rows n) i j
 
--- what is so of the partner r of label j after the subtree `b` became a part of `a`, a < b: unless j is a, or r one of
--- the two, it is still taken first of all but `a`
-pub record Outdated (label sizes sums : List ℕ) (a b j r : ℕ) : Type 0 where
-  pub before : j < a → Partner label sizes sums j j r
-  pub below : a < j → r ≢ b → r < j
-  pub own : a < j → r ≢ b → getD label r 0 ≡ r
-  pub first :
-      a < j → r ≢ a → r ≢ b → (i : ℕ) → i < j → i ≢ a → getD label i 0 ≡ i
-      → taken-before sizes sums (i, j) (r, j) ≡ false
+-- what is so of the partner r of label i after the subtree `b` became a part of `a`, a < b: where i does not come
+-- before `b`, or comes after `a` and r is not `b`, it is still the partner; where i comes before `a`, unless r is one
+-- of the two, its pair is taken first of all but that of `a`
+pub record Outdated (n : ℕ) (label sizes sums : List ℕ) (a b i r : ℕ) : Type 0 where
+  pub behind : b ≤ i → Partner n label sizes sums i r
+  pub between : a < i → r ≢ b → Partner n label sizes sums i r
+  pub some : i < a → r ≢ n
+  pub before : i < a → r ≢ a → r ≢ b → TakenFirst n label sizes sums (RowBut i a) i r
+
+-- A pair with what is kept of it. Its mean:
+abbrev pub pair-mean : Pair → Fraction
+pair-mean p = (p .sum, p .cells)
+
+-- the pair (i, j)
+abbrev pub kept-pair : (sizes sums : List ℕ) (i j : ℕ) → Pair
+kept-pair sizes sums i j = record {
+  first = i;
+  second = j;
+  sum = getD sums (pair-place i j) 0;
+  cells = getD sizes i 0 * getD sizes j 0;
+}
+
+-- no product of it wraps
+pub record SmallPair (p : Pair) : Type 0 where
+  pub sum-most : p .sum ≤ most-gaps
+  pub cells-most : p .cells ≤ most-leaves * most-leaves
+
+-- r is q if that has the smaller mean, else p
+pub record Smaller (p q r : Pair) : Type 0 where
+  pub less-is : less (pair-mean q) (pair-mean p) ≡ true → r ≡ q
+  pub else-is : less (pair-mean q) (pair-mean p) ≡ false → r ≡ p
+
+-- of some pairs of labels p is taken first, with what is kept of it; where there is none, its mean is 1 / 0, which is
+-- more than any
+pub record Best (n : ℕ) (label sizes sums : List ℕ) (among : ℕ → ℕ → Type 0) (p : Pair) : Type 0 where
+  pub taken : TakenFirst n label sizes sums among (p .first) (p .second)
+  pub kept : p .second ≢ n → p ≡ kept-pair sizes sums (p .first) (p .second)
+  pub above : p .second ≡ n → (p .sum ≡ 1) × (p .cells ≡ 0)
