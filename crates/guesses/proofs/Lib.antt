@@ -1,2 +1,3 @@
 mod Told
 mod Judged
+pub mod Trees

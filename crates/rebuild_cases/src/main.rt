@@ -1,7 +1,12 @@
-// Runs both rebuilds on P7's table and on tables and merges like it.
+// Runs both rebuilds on P7's table and on tables and merges like it; and the guess on these, on tables with ties, and on
+// a poll's.
 use case_lines::say_listing;
+use case_lines::say_number;
 use case_lines::say_tree;
+use guesses::GuessOutcome;
 use limits::Kind;
+use refusals::Refusal;
+use tree_records::Origin;
 use tree_records::TreeOutcome;
 
 // P7's table.
@@ -88,9 +93,79 @@ fn refused_proposals(cells: &[u32]) {
     guide(b"guided from 0 2: ", cells, &[0, 2, 3, 4, 0, 1, 0, 3]);
 }
 
+// A guess that is accepted, with its total gap; and one that is refused.
+fn say_total(words: &[u8], origin: Origin, total: u64) {
+    say_tree(words, TreeOutcome::Marked(origin));
+    say_number(b" with the total gap ", total);
+}
+
+fn say_refused(words: &[u8], cause: Refusal) {
+    say_tree(words, TreeOutcome::Refused(cause));
+}
+
+// What the guess answers.
+fn say_guess(words: &[u8], answer: GuessOutcome) {
+    match answer {
+        GuessOutcome::Tree(origin, total) => say_total(words, origin, total),
+        GuessOutcome::Refused(cause) => say_refused(words, cause),
+    }
+}
+
+// The guess of a table of five leaves.
+fn guess(words: &[u8], kind: Kind, cells: &[u32]) {
+    let mut listing = [9u16; 7];
+    say_guess(words, guesses::guess(kind, 5, cells, &mut listing));
+    say_listing(&listing);
+}
+
+// Three leaves, whose tree is known: the total gap is the sum of the cells. A poll has four leaves or more.
+fn guessed_of_three() {
+    let mut listing = [9u16; 2];
+    let cells: [u32; 9] = [0, 1, 2, 1, 0, 3, 2, 3, 0];
+    say_guess(
+        b"guess of three leaves: ",
+        guesses::guess(Kind::Counts, 3, &cells, &mut listing),
+    );
+    say_listing(&listing);
+    let mut untouched = [9u16; 2];
+    say_guess(
+        b"guess of three leaves of a poll: ",
+        guesses::guess(Kind::Poll, 3, &cells, &mut untouched),
+    );
+    say_listing(&untouched);
+}
+
+// Four leaves with the cells (0, 2) and (1, 2) of 1: these pairs tie, and 0 2 is merged.
+fn guessed_of_four() {
+    let mut listing = [9u16; 4];
+    let cells: [u32; 16] = [0, 0, 1, 0, 0, 0, 1, 0, 1, 1, 0, 0, 0, 0, 0, 0];
+    say_guess(
+        b"guess of four leaves with a tie: ",
+        guesses::guess(Kind::Counts, 4, &cells, &mut listing),
+    );
+    say_listing(&listing);
+}
+
+// P7's table, of counts and said to be a poll's; with one cell and its mirror changed, and then one alone; all cells 0.
+fn guessed_of_five() {
+    let mut cells = FIVE;
+    guess(b"guess of five leaves: ", Kind::Counts, &cells);
+    guess(b"guess of the same of a poll: ", Kind::Poll, &cells);
+    cells[1] = 2;
+    cells[5] = 2;
+    guess(b"guess with one count changed: ", Kind::Counts, &cells);
+    cells[5] = 3;
+    guess(b"guess with unequal halves: ", Kind::Counts, &cells);
+    let zeros = [0u32; 25];
+    guess(b"guess of five leaves, all cells 0: ", Kind::Counts, &zeros);
+}
+
 fn main() {
     rebuilt();
     let cells = FIVE;
     guided(&cells);
     refused_proposals(&cells);
+    guessed_of_three();
+    guessed_of_four();
+    guessed_of_five();
 }
