@@ -1,5 +1,5 @@
--- The sums that are worked anew after a merge are those of the state: labels say which leaves a subtree has, and what is
--- expected of a cell is what the arrays say.
+-- The sums that are worked anew after a merge are those of the state: labels say which leaves a subtree has, and what
+-- is expected of a cell is what the arrays say.
 use mathlib.Core.Path.{_≡_, sym, ap, _∙_}
 use mathlib.Core.Logic.{inl, inr, _≢_}
 use mathlib.Core.Bool.{true, false, _&&_, and-comm}
@@ -28,7 +28,8 @@ use Rattle.gap_sums.specs.inner.GapSums.{due-at, gap-in, leaf-gaps, subtree-gap
 
 module _ {n s : ℕ} {S : State} (w : WellFormed n S) {label m sizes : List ℕ} (h : HoldsState n s label m sizes S) where
   -- whether a leaf is in a label's subtree
-  pub label-test : (i : ℕ) → i < n → getD label i 0 ≡ i → (x : ℕ) → x < n → leaves (S .tree i) x ≡ eqb (getD label x 0) i
+  pub label-test :
+      (i : ℕ) → i < n → getD label i 0 ≡ i → (x : ℕ) → x < n → leaves (S .tree i) x ≡ eqb (getD label x 0) i
   label-test i li o x lx = elim (bool? (leaves (S .tree i) x)) [
     | inl p ↦ p ∙ sym (eq-eqb (getD label x 0) i (label-in w h i li o x lx p))
     | inr p ↦ p ∙ sym (ne-eqb (getD label x 0) i (label-out w h i li o x lx p))

@@ -20,15 +20,19 @@ loop-holds c = (omega arith, row-start)
 
 add-put-cell : tie.Need-add-put-cell Inv-loop μ-loop
 add-put-cell c =
-    let l = c .before .before .before .before .before .loop in
-    omega (arith, c .before .before .before .before .before .before .before .pre .3 (l .y) (omega arith) (c .before .before .if1 .taken))
+    let turn = c .before .before .before .before .before in
+    let s = turn .before .before in
+    let l = turn .loop in
+    omega (arith, s .pre .3 (l .y) (omega arith) (c .before .before .if1 .taken))
 
 put-cell-requires : tie.Need-put-cell-requires Inv-loop μ-loop
 put-cell-requires c κs =
-    let s = c .before .before .before .before .before .before .before in
-    let l = c .before .before .before .before .before .loop in
+    let turn = c .before .before .before .before .before in
+    let s = turn .before .before in
+    let l = turn .loop in
     let o = c .before .before .if1 .taken in
-    ((s .pre .0 .0, l .inv .1 .long ∙ s .pre .0 .1), s .pre .1, omega arith, λ e. s .pre .2 (rw e o), s .pre .3 (l .y) (omega arith) o)
+    ((s .pre .0 .0, l .inv .1 .long ∙ s .pre .0 .1), s .pre .1, omega arith, λ e. s .pre .2 (rw e o), s .pre .3 (l .y)
+    (omega arith) o)
 
 loop-less : tie.Need-loop-less Inv-loop μ-loop
 loop-less c = omega arith
@@ -49,7 +53,9 @@ same-length : tie.Need-same-length Inv-loop μ-loop
 same-length c = c .before .loop .inv .1 .long
 
 returns : tie.Need-returns Inv-loop μ-loop
-returns c = let e : c .before .loop .y ≡ c .before .before .before .args .n = omega arith in rw e at (c .before .loop .inv .1)
+returns c =
+    let s = c .before .before .before in
+    let e : c .before .loop .y ≡ s .args .n = omega arith in rw e at (c .before .loop .inv .1)
 
 pub put-row-spec : {M : Type 1} → statement M
 put-row-spec =

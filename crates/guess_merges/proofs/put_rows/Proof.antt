@@ -20,15 +20,20 @@ loop-holds : tie.Need-loop-holds Inv-loop μ-loop
 loop-holds c = (omega arith, block-start)
 
 add-put-row : tie.Need-add-put-row Inv-loop μ-loop
-add-put-row c = omega (arith, P-most, c .before .before .before .before .before .before .pre .2 (c .before .before .before .before .loop .x) (omega arith))
+add-put-row c =
+    let turn = c .before .before .before .before in
+    let s = turn .before .before in
+    omega (arith, P-most, s .pre .2 (turn .loop .x) (omega arith))
 
 put-row-requires : tie.Need-put-row-requires Inv-loop μ-loop
 put-row-requires c κs =
-    let s = c .before .before .before .before .before .before .before in
-    let l = c .before .before .before .before .before .loop in
+    let turn = c .before .before .before .before .before in
+    let s = turn .before .before in
+    let l = turn .loop in
     let o = c .before .before .if1 .taken in
     let lx : l .x < s .args .n = omega arith in
-    ((s .pre .0 .0, l .inv .1 .long ∙ s .pre .0 .1), lx, λ q. s .pre .1 (sym o ∙ q), λ y ly q. s .pre .4 (l .x) y lx ly o q)
+    ((s .pre .0 .0, l .inv .1 .long ∙ s .pre .0 .1), lx, λ q. s .pre .1 (sym o ∙ q), λ y ly q. s .pre .4
+    (l .x) y lx ly o q)
 
 loop-less : tie.Need-loop-less Inv-loop μ-loop
 loop-less c = omega arith
@@ -48,7 +53,9 @@ same-length : tie.Need-same-length Inv-loop μ-loop
 same-length c = c .before .loop .inv .1 .long
 
 returns : tie.Need-returns Inv-loop μ-loop
-returns c = let e : c .before .loop .x ≡ c .before .before .before .args .n = omega arith in rw e at (c .before .loop .inv .1)
+returns c =
+    let s = c .before .before .before in
+    let e : c .before .loop .x ≡ s .args .n = omega arith in rw e at (c .before .loop .inv .1)
 
 pub put-rows-spec : {M : Type 1} → statement M
 put-rows-spec =
