@@ -25,16 +25,21 @@ use Rattle.rebuild_answers.specs.Operations.{rebuild-answer, guided-answer}
 use Rattle.rebuild_answers.proofs.Promises.{rebuilt-leaf-count, rebuilt-is-standard, rebuilt-has-the-table}
 use Rattle.rebuild_answers.proofs.Promises.{guided-same-listing}
 use Rattle.byte_numbers.specs.Bytes.{low-first}
-use Rattle.packed_tables.specs.Packed.{table-with}
-use Rattle.sheet_rules.specs.Sheets.{leaves-of, cells-of}
+use Rattle.sheet_rules.specs.Sheets.{leaves-of}
 use Rattle.sheet_trees.specs.Operations.{sheet-listing-answer, sheet-bytes-answer}
 use Rattle.sheet_trees.proofs.Promises.{sheet-same-listing, bytes-same-listing}
 use Rattle.newick_rules.specs.Operations.{import-answer}
 use Rattle.newick_rules.proofs.Sheets.{import-answer-right}
+use Rattle.merging.specs.Guesses.{Reply}
+use Rattle.guess_answers.specs.Operations.{guess-answer, sheet-guess-answer, record-of, guess-record}
+use Rattle.guess_answers.specs.Operations.{sheet-guess-record}
+use Rattle.guess_answers.proofs.Replies.{IsReply}
+use Rattle.guess_answers.proofs.Promises.{guess-is-reply, sheet-guess-is-reply}
 use Rattle.record_operations.specs.Operations.{rebuild-record, sheet-record, guided-record, lent-record}
 use Rattle.record_operations.specs.Operations.{import-record, restandardise-record}
-use Rattle.made_records.specs.Made.{Given, Made, rebuild, rebuild-sheet, rebuild-guided}
-use Rattle.made_records.specs.Made.{lend, import, restandardise, tree, HasTableGiven, has-table}
+use Rattle.made_records.specs.Made.{Given, sheet-table, Made, rebuild, rebuild-sheet, rebuild-guided}
+use Rattle.made_records.specs.Made.{guess, guess-sheet, lend, import, restandardise, tree, HasTableGiven}
+use Rattle.made_records.specs.Made.{has-table}
 use Rattle.made_records.proofs.Restandardising.{restandardise-same, restandardise-accepts}
 
 -- What is so of every record that our operations make, with this table given.
@@ -65,6 +70,22 @@ rebuild-sound kind n t room a e own = marked-sound n Rebuilt a e (λ l given.
       is-standard = λ _. rebuilt-is-standard kind n t room l e′ .1;
       rebuilt-has = λ _. has-table (rebuilt-has-the-table kind n t room l e′);
     })
+
+-- A guess: its reply says what is so of it, whether it is guessed or rebuilt.
+guess-sound :
+    (kind : Kind) (n : ℕ) (t : List ℕ) (a : Answer Reply) {R : TreeRecord} → record-of n a ≡ accepted R
+    → ((r : Reply) → a ≡ accepted r → IsReply n (scale-of kind) t r) → Sound R (some (kind, t))
+unfolding record-of
+guess-sound kind n t (accepted r) e is =
+    let reply = is r refl in
+    let sound : Sound (record { leaves = n; listing = r .listing; origin = r .origin }) (some (kind, t)) = record {
+      count = reply .count;
+      keeps = reply .is-a-tree;
+      is-standard = λ _. reply .is-standard;
+      rebuilt-has = λ same. has-table (reply .rebuilt-has same);
+    } in
+    rw (accepted-same _ _ e) at sound
+guess-sound kind n t (refused x) e is = absurd (accepted-not-refused _ x (sym e))
 
 -- A lent listing, which keeps the rules and is listed.
 lend-sound : (n : ℕ) (l : List ℕ) {R : TreeRecord} → lent-record n l ≡ accepted R → Sound R none
@@ -112,7 +133,7 @@ restandardise-sound room {R} v e =
 
 -- One clause an operation.
 made-sound : {R : TreeRecord} {g : Given} → Made R g → Sound R g
-unfolding rebuild-record sheet-record guided-record guided-answer
+unfolding rebuild-record sheet-record guided-record guided-answer guess-record sheet-guess-record
 made-sound (rebuild kind n t room e) =
     rebuild-sound kind n t room (rebuild-answer kind n t room) e (λ l given. given)
 made-sound (rebuild-sheet S room e) =
@@ -120,6 +141,10 @@ made-sound (rebuild-sheet S room e) =
 made-sound (rebuild-guided kind n t p room e) =
     rebuild-sound kind n t room (guided-answer kind n t p room) e (λ l given.
     guided-same-listing kind n t p room (unless-accepted _ _ l given .0) l given)
+made-sound (guess kind n t room e) =
+    guess-sound kind n t (guess-answer kind n t room) e (guess-is-reply kind n t room)
+made-sound (guess-sheet S room e) =
+    guess-sound Counts (leaves-of S) _ (sheet-guess-answer S room) e (sheet-guess-is-reply S room)
 made-sound (lend n l e) = lend-sound n l e
 made-sound (import S t room e) = import-sound S t room e
 made-sound (restandardise room made e) = restandardise-sound room (made-sound made) e
@@ -157,7 +182,7 @@ made-standard made other = made-sound made .is-standard other
 -- The sheet call tells no origin: its bytes are the listing of a made record that is rebuilt, from the sheet's table.
 pub sheet-bytes-made :
     (S : List ℕ) (room : ℕ) (b : List ℕ) → sheet-bytes-answer S room ≡ accepted b
-    → (R : TreeRecord) × Made R (some (Counts, table-with (leaves-of S) (cells-of S))) × (R .origin ≡ Rebuilt)
+    → (R : TreeRecord) × Made R (some (Counts, sheet-table S)) × (R .origin ≡ Rebuilt)
     × (b ≡ flatMap (low-first 2) (R .listing))
 unfolding sheet-record marked
 sheet-bytes-made S room b e =

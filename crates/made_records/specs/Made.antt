@@ -14,12 +14,17 @@ use Rattle.trees.specs.Listings.{tree-of}
 use Rattle.trees.specs.Tables.{HasTable}
 use Rattle.packed_tables.specs.Packed.{table-with}
 use Rattle.sheet_rules.specs.Sheets.{leaves-of, cells-of}
+use Rattle.guess_answers.specs.Operations.{guess-record, sheet-guess-record}
 use Rattle.record_operations.specs.Operations.{rebuild-record, sheet-record, guided-record, lent-record}
 use Rattle.record_operations.specs.Operations.{import-record, restandardise-record}
 
 -- the table that the rebuild at the start of a chain was given, with its kind; none where no rebuild stands there
 abbrev pub Given : Type 0
 Given = Option (Kind × List ℕ)
+
+-- the table of a sheet
+abbrev pub sheet-table : List ℕ → List ℕ
+sheet-table S = table-with (leaves-of S) (cells-of S)
 
 -- the record R can come out of a chain of our operations, with this table given
 pub data Made : TreeRecord → Given → Type 0 where
@@ -29,11 +34,18 @@ pub data Made : TreeRecord → Given → Type 0 where
       → Made R (some (kind, t))
   rebuild-sheet :
       (S : List ℕ) (room : ℕ) {R : TreeRecord} → sheet-record S room ≡ accepted R
-      → Made R (some (Counts, table-with (leaves-of S) (cells-of S)))
+      → Made R (some (Counts, sheet-table S))
   -- the guided rebuild
   rebuild-guided :
       (kind : Kind) (n : ℕ) (t p : List ℕ) (room : ℕ) {R : TreeRecord} → guided-record kind n t p room ≡ accepted R
       → Made R (some (kind, t))
+  -- the guess of a lent table, and of a sheet's: the tree that has it, or a guessed one
+  guess :
+      (kind : Kind) (n : ℕ) (t : List ℕ) (room : ℕ) {R : TreeRecord} → guess-record kind n t room ≡ accepted R
+      → Made R (some (kind, t))
+  guess-sheet :
+      (S : List ℕ) (room : ℕ) {R : TreeRecord} → sheet-guess-record S room ≡ accepted R
+      → Made R (some (Counts, sheet-table S))
   -- a lent listing
   lend : (n : ℕ) (l : List ℕ) {R : TreeRecord} → lent-record n l ≡ accepted R → Made R none
   -- an import

@@ -1,5 +1,5 @@
-// Runs both rebuilds on P7's table and on tables and merges like it; and the guess on these, on tables with ties, and on
-// a poll's.
+// Runs both rebuilds on P7's table and on tables and merges like it; and the guess on these, on a table with a tie, and
+// on a poll's.
 use case_lines::say_listing;
 use case_lines::say_number;
 use case_lines::say_tree;
