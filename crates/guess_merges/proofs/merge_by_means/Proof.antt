@@ -56,9 +56,12 @@ renew-requires c κs =
     let turn = tested .before in
     let s = turn .before .before .before in
     let l = turn .loop in
-    let lk : l .k - 1 < s .args .n - 1 = omega (arith, tested .loop-test .taken, l .inv .0) in
-    (s .pre .0 .given .is-table, sums-ready (s .pre .0) (l .k - 1) lk (l .inv .2) (chosen .choose .ensures)
-    (merged .merge .ensures), l .inv .2 .small)
+    let lk : l .k - 1 < s .args .n - 1 = omega (arith, tested .loop-test .taken, l .inv .0) in (
+      s .pre .0 .given .is-table,
+      sums-ready (s .pre .0) (l .k - 1) lk (l .inv .2) (chosen .choose .ensures)
+          (merged .merge .ensures),
+      l .inv .2 .small,
+    )
 
 renew-partners-requires : tie.Need-renew-partners-requires Inv-loop μ-loop
 renew-partners-requires c κs =

@@ -12,9 +12,14 @@ put-rows-requires : tie.Need-put-rows-requires
 put-rows-requires c κs =
     let s = c .before .before .before .before .before .before in
     let a = s .args in
-    let e = getD (a .p .now) (a .n - (getD (a .sizes .now) (a .a) 0 + getD (a .sizes .now) (a .b) 0)) 0 in
-    (s .pre .0, λ q. s .pre .3 (sym q), s .pre .4, s .pre .5 _ (omega arith), values-across (a .label .now)
-    (a .m .now) (a .a) (a .b) e (s .pre .7))
+    let e = getD (a .p .now) (a .n - (getD (a .sizes .now) (a .a) 0 + getD (a .sizes .now) (a .b) 0)) 0 in (
+      s .pre .0,
+      λ q. s .pre .3 (sym q),
+      s .pre .4,
+      s .pre .5 _ (omega arith),
+      values-across (a .label .now)
+          (a .m .now) (a .a) (a .b) e (s .pre .7),
+    )
 
 same-length : tie.Need-same-length
 same-length c = c .before .before .put-rows .ensures .long

@@ -30,9 +30,14 @@ put-cell-requires c κs =
     let turn = c .before .before .before .before .before in
     let s = turn .before .before in
     let l = turn .loop in
-    let o = c .before .before .if1 .taken in
-    ((s .pre .0 .0, l .inv .1 .long ∙ s .pre .0 .1), s .pre .1, omega arith, λ e. s .pre .2 (rw e o), s .pre .3 (l .y)
-    (omega arith) o)
+    let o = c .before .before .if1 .taken in (
+      (s .pre .0 .0, l .inv .1 .long ∙ s .pre .0 .1),
+      s .pre .1,
+      omega arith,
+      λ e. s .pre .2 (rw e o),
+      s .pre .3 (l .y)
+          (omega arith) o,
+    )
 
 loop-less : tie.Need-loop-less Inv-loop μ-loop
 loop-less c = omega arith

@@ -31,9 +31,13 @@ put-row-requires c κs =
     let s = turn .before .before in
     let l = turn .loop in
     let o = c .before .before .if1 .taken in
-    let lx : l .x < s .args .n = omega arith in
-    ((s .pre .0 .0, l .inv .1 .long ∙ s .pre .0 .1), lx, λ q. s .pre .1 (sym o ∙ q), λ y ly q. s .pre .4
-    (l .x) y lx ly o q)
+    let lx : l .x < s .args .n = omega arith in (
+      (s .pre .0 .0, l .inv .1 .long ∙ s .pre .0 .1),
+      lx,
+      λ q. s .pre .1 (sym o ∙ q),
+      λ y ly q. s .pre .4
+          (l .x) y lx ly o q,
+    )
 
 loop-less : tie.Need-loop-less Inv-loop μ-loop
 loop-less c = omega arith
