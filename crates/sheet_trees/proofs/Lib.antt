@@ -1,4 +1,3 @@
 mod SheetTree
-pub mod Listed
 mod InBytes
 pub mod Promises

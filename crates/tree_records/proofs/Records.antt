@@ -1,15 +1,12 @@
 -- Answers that are tree records: what code returns for one, made of the answer that tells no origin.
-use mathlib.Core.Path.{_≡_, refl, sym}
+use mathlib.Core.Path.{_≡_, sym}
 use mathlib.Core.List.{List}
 use Prim.Native.Nat.{ℕ}
-use native.Mathlib.Omega.{arith}
 use Rattle.refusals.specs.declared.Outcome.{Outcome}
-use Rattle.refusals.specs.declared.Outcome.the-variants.{Done}
 use Rattle.refusals.specs.Refusals.{Answer, accepted, refused, outcome}
 use Rattle.refusals.proofs.Answers.{accepted-not-refused}
 use Rattle.tree_records.specs.declared.Origin.{Origin}
 use Rattle.tree_records.specs.declared.TreeOutcome.{TreeOutcome}
-use Rattle.tree_records.specs.declared.TreeOutcome.the-variants.{Marked}
 use Rattle.tree_records.specs.Records.{TreeRecord, marked, tree-outcome}
 use Rattle.tree_records.specs.inner.Outcomes.{marked-outcome}
 
@@ -20,13 +17,6 @@ pub mark-told :
 unfolding outcome marked tree-outcome
 mark-told n o (accepted l) h e = rw e at h
 mark-told n o (refused x) h e = rw e at h
-
--- where the origin is told, the answer is accepted
-pub mark-done :
-    (n : ℕ) (o : Origin) (a : Answer (List ℕ)) {p : Origin} → tree-outcome (marked n o a) ≡ Marked p → outcome a ≡ Done
-unfolding outcome marked tree-outcome
-mark-done n o (accepted l) e = refl
-mark-done n o (refused x) e = absurd (let z : _≡_ {A = ℕ} 0 1 = cc in omega arith)
 
 -- a record that was made: its listing is the answer's, its leaf count and its origin are those given
 pub marked-accepted :
