@@ -117,7 +117,7 @@
 #define QUARTREE_SHEET_MOST_BYTES (41 * QUARTREE_MOST_LEAVES + QUARTREE_MOST_LEAVES * (QUARTREE_MOST_LEAVES - 1) + 8)
 #define QUARTREE_SET_BYTES (8 * ((QUARTREE_MOST_LEAVES + 63) / 64)) /* of a leaf set: a bit a leaf, in whole words */
 #define QUARTREE_STACK_BYTES 32768 /* of stack, enough for every call but quartree_guess */
-#define QUARTREE_GUESS_STACK_BYTES 262144 /* of stack, enough for quartree_guess */
+#define QUARTREE_GUESS_STACK_BYTES 131072 /* of stack, enough for quartree_guess */
 
 #define QUARTREE_LISTING_NUMBERS(n) (2 * ((size_t)(n) - 2)) /* uint16_t of a listing: two a row */
 #define QUARTREE_LISTING_BYTES(n) (4 * ((size_t)(n) - 2))   /* bytes of a listing, for quartree_rebuild_sheet */

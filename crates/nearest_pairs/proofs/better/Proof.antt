@@ -1,15 +1,11 @@
+-- `nearest_pairs::better` meets its contract. The pair taken first once those of one more label are looked at.
 use mathlib.Core.Path.{refl, sym, _∙_}
+use borrow.Author.Needs.{needs}
 use lib.ListN.{getD}
 use Rattle.nearest_pairs.specs.inner.Nearest.{Partner}
 use Rattle.nearest_pairs.proofs.Search.{pair-fits, pair-small, best-small, rows-skip, rows-turn}
-use borrow.Author.Needs.{needs}
 use Rattle.nearest_pairs.proofs.better.Statement.{statement}
 use Rattle.nearest_pairs.proofs.better.Tie as tie
-use Rattle.nearest_pairs.proofs.better.Reads as reads
-use Rattle.nearest_pairs.proofs.better.Lts as lts
-use Rattle.nearest_pairs.proofs.pair_of.Reads as pair-of-reads
-use Rattle.nearest_pairs.proofs.smaller.Reads as smaller-reads
-use Rattle.numbers.proofs.index_of_u32.Reads as index-of-u32-reads
 
 -- i is a label, and has its partner
 partner :
@@ -20,52 +16,27 @@ partner c =
     let s = c .before .before .before in
     s .pre .1 _ (s .pre .2) (sym (c .before .index-of-u32 .ensures) ∙ c .if1 .left)
 
--- src/lib.rt:132:21
-mul-index-of-u32 : tie.Need-mul-index-of-u32
-mul-index-of-u32 c = search needs
-
--- src/lib.rt:132:21
-element-copy-out-index-of-u32 : tie.Need-element-copy-out-index-of-u32
-element-copy-out-index-of-u32 c = search needs
-
--- src/lib.rt:132:8
-index-of-u32-requires : tie.Need-index-of-u32-requires
-index-of-u32-requires c κs = search needs
-
--- src/lib.rt:133:9
 returns : tie.Need-returns
 returns c =
     let s = c .before .before .before in
     rows-skip (s .pre .0) (s .pre .3) (λ l t. c .if1 .taken (c .before .index-of-u32 .ensures ∙ t .own-first))
 
--- src/lib.rt:135:13
-mul-j : tie.Need-mul-j
-mul-j c = search needs
-
--- src/lib.rt:135:13
-element-copy-out-j : tie.Need-element-copy-out-j
-element-copy-out-j c = search needs
-
--- src/lib.rt:137:9
 returns-2 : tie.Need-returns-2
 returns-2 c =
     let s = c .before .before .before .before .before in
     let p = partner (c .before .before) in
     rows-skip (s .pre .0) (s .pre .3) (λ l t. p .none (c .if2 .taken) _ l t refl)
 
--- src/lib.rt:139:19
 pair-of-requires : tie.Need-pair-of-requires
 pair-of-requires c κs =
     pair-fits (c .before .before .before .before .before .pre .0) (partner (c .before .before) .two (c .if2 .left))
 
--- src/lib.rt:139:5
 smaller-requires : tie.Need-smaller-requires
 smaller-requires c κs =
     let s = c .before .before .before .before .before .before in
     let t = partner (c .before .before .before) .two (c .before .if2 .left) in
     (best-small (s .pre .0) (s .pre .3), rw (c .pair-of .ensures) (pair-small (s .pre .0) t))
 
--- src/lib.rt:118:1
 returns-3 : tie.Need-returns-3
 returns-3 c =
     let s = c .before .before .before .before .before .before .before in
@@ -76,12 +47,9 @@ pub better-spec : {M : Type 1} → statement M
 better-spec =
     tie.close
     (tie.spec
-    mul-index-of-u32
-    element-copy-out-index-of-u32
-    index-of-u32-requires
+    (λ c. search needs) (λ c. search needs) (λ c κs. search needs)
     returns
-    mul-j
-    element-copy-out-j
+    (λ c. search needs) (λ c. search needs)
     returns-2
     pair-of-requires
     smaller-requires

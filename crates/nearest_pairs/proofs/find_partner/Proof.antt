@@ -1,14 +1,13 @@
+-- `nearest_pairs::find_partner` meets its contract. The partner of a label: the pairs with the labels after it, in
+-- their order.
 use mathlib.Core.Path.{_≡_}
 use Prim.Native.Nat.{_-_, _≤_, _<_}
-use Rattle.nearest_pairs.specs.inner.Nearest.{RowTo, Best}
-use Rattle.nearest_pairs.proofs.Search.{row-start, row-end}
 use native.Mathlib.Omega.{arith}
 use borrow.Author.Needs.{needs}
+use Rattle.nearest_pairs.specs.inner.Nearest.{RowTo, Best}
+use Rattle.nearest_pairs.proofs.Search.{row-start, row-end}
 use Rattle.nearest_pairs.proofs.find_partner.Statement.{statement}
 use Rattle.nearest_pairs.proofs.find_partner.Tie as tie
-use Rattle.nearest_pairs.proofs.find_partner.Reads as reads
-use Rattle.nearest_pairs.proofs.find_partner.Lts as lts
-use Rattle.nearest_pairs.proofs.nearer.Reads as nearer-reads
 
 abbrev Inv-loop : tie.InvT-loop
 Inv-loop n label sizes sums i best₀ j₀ best j = (i < j) × (j ≤ n) × Best n label sizes sums (RowTo i j) best
@@ -16,33 +15,20 @@ Inv-loop n label sizes sums i best₀ j₀ best j = (i < j) × (j ≤ n) × Best
 abbrev μ-loop : tie.MeasureT-loop
 μ-loop n label sizes sums i best₀ j₀ best j = n - j
 
--- src/lib.rt:89:24
-add-j : tie.Need-add-j Inv-loop μ-loop
-add-j c = search needs
-
--- src/lib.rt:90:5
 loop-holds : tie.Need-loop-holds Inv-loop μ-loop
 loop-holds c = (omega arith, omega arith, row-start (c .pre .0))
 
--- src/lib.rt:91:9
 nearer-requires : tie.Need-nearer-requires Inv-loop μ-loop
 nearer-requires c κs =
     let s = c .before .before in
     (s .pre .0, s .pre .2, omega arith, omega arith, c .before .loop .inv .2)
 
--- src/lib.rt:92:9
-add-j-2 : tie.Need-add-j-2 Inv-loop μ-loop
-add-j-2 c = search needs
-
--- src/lib.rt:90:5
 loop-less : tie.Need-loop-less Inv-loop μ-loop
 loop-less c = omega arith
 
--- src/lib.rt:90:5
 loop-again : tie.Need-loop-again Inv-loop μ-loop
 loop-again c = (omega arith, omega arith, c .nearer .ensures)
 
--- src/lib.rt:73:1
 returns : tie.Need-returns Inv-loop μ-loop
 returns c =
     let e : c .before .loop .j ≡ c .before .before .args .n = omega arith in
@@ -54,10 +40,10 @@ find-partner-spec =
     (tie.spec
     Inv-loop
     μ-loop
-    add-j
+    (λ c. search needs)
     loop-holds
     nearer-requires
-    add-j-2
+    (λ c. search needs)
     loop-less
     loop-again
     returns)

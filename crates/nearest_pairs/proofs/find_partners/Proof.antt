@@ -1,15 +1,13 @@
+-- `nearest_pairs::find_partners` meets its contract. The partner of every label, found one after the other.
 use mathlib.Core.Path.{_≡_, _∙_}
 use Prim.Native.Nat.{_-_, _≤_}
+use native.Mathlib.Omega.{arith}
+use borrow.Author.Needs.{needs}
 use lib.ListN.{length, length-set}
 use Rattle.limits.specs.Limits.{most-leaves}
 use Rattle.nearest_pairs.proofs.Search.{PartnersTo, partners-turn}
-use native.Mathlib.Omega.{arith}
-use borrow.Author.Needs.{needs}
 use Rattle.nearest_pairs.proofs.find_partners.Statement.{statement}
 use Rattle.nearest_pairs.proofs.find_partners.Tie as tie
-use Rattle.nearest_pairs.proofs.find_partners.Reads as reads
-use Rattle.nearest_pairs.proofs.find_partners.Lts as lts
-use Rattle.nearest_pairs.proofs.find_partner.Reads as find-partner-reads
 
 abbrev Inv-loop : tie.InvT-loop
 Inv-loop n label sizes sums partners₀ i₀ partners i =
@@ -18,33 +16,17 @@ Inv-loop n label sizes sums partners₀ i₀ partners i =
 abbrev μ-loop : tie.MeasureT-loop
 μ-loop n label sizes sums partners₀ i₀ partners i = n - i
 
--- src/lib.rt:111:5
 loop-holds : tie.Need-loop-holds Inv-loop μ-loop
 loop-holds c = (omega arith, c .pre .1, λ k l. absurd (omega arith))
 
--- src/lib.rt:112:23
 find-partner-requires : tie.Need-find-partner-requires Inv-loop μ-loop
 find-partner-requires c κs =
     let s = c .before .before in
     (s .pre .0, omega arith, s .pre .2 (c .before .loop .i) (omega arith))
 
--- src/lib.rt:112:9
-mul-partners : tie.Need-mul-partners Inv-loop μ-loop
-mul-partners c = search needs
-
--- src/lib.rt:112:9
-element-write-partners : tie.Need-element-write-partners Inv-loop μ-loop
-element-write-partners c = search needs
-
--- src/lib.rt:113:9
-add-i : tie.Need-add-i Inv-loop μ-loop
-add-i c = search needs
-
--- src/lib.rt:111:5
 loop-less : tie.Need-loop-less Inv-loop μ-loop
 loop-less c = omega arith
 
--- src/lib.rt:111:5
 loop-again : tie.Need-loop-again Inv-loop μ-loop
 loop-again c =
     let s = c .before .before .before in
@@ -55,7 +37,6 @@ loop-again c =
           (λ o. c .find-partner .ensures),
     )
 
--- src/lib.rt:98:1
 returns : tie.Need-returns Inv-loop μ-loop
 returns c =
     let l = c .before .loop in
@@ -69,9 +50,7 @@ find-partners-spec =
     μ-loop
     loop-holds
     find-partner-requires
-    mul-partners
-    element-write-partners
-    add-i
+    (λ c. search needs) (λ c. search needs) (λ c. search needs)
     loop-less
     loop-again
     returns)

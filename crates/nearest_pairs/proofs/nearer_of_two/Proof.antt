@@ -1,20 +1,14 @@
+-- `nearest_pairs::nearer_of_two` meets its contract. Which of two labels has the pair with a third that is taken first.
 use Rattle.nearest_pairs.proofs.Search.{pair-fits, pair-small, nearer-is}
 use Rattle.nearest_pairs.proofs.nearer_of_two.Statement.{statement}
 use Rattle.nearest_pairs.proofs.nearer_of_two.Tie as tie
-use Rattle.nearest_pairs.proofs.nearer_of_two.Reads as reads
-use Rattle.nearest_pairs.proofs.nearer_of_two.Lts as lts
-use Rattle.nearest_pairs.proofs.pair_of.Reads as pair-of-reads
-use Rattle.nearest_pairs.proofs.smaller.Reads as smaller-reads
 
--- src/lib.rt:184:9
 pair-of-requires : tie.Need-pair-of-requires
 pair-of-requires c κs = pair-fits (c .pre .0) (c .pre .1)
 
--- src/lib.rt:185:9
 pair-of-requires-2 : tie.Need-pair-of-requires-2
 pair-of-requires-2 c κs = pair-fits (c .before .pre .0) (c .before .pre .2)
 
--- src/lib.rt:186:9
 smaller-requires : tie.Need-smaller-requires
 smaller-requires c κs =
     let s = c .before .before in (
@@ -22,7 +16,6 @@ smaller-requires c κs =
       rw (c .pair-of2 .ensures) (pair-small (s .pre .0) (s .pre .2)),
     )
 
--- src/lib.rt:170:1
 returns : tie.Need-returns
 returns c =
     let s = c .before .before .before in

@@ -1,17 +1,15 @@
+-- `nearest_pairs::renew_partners` meets its contract. After a merge every label has its partner again.
 use mathlib.Core.Path.{_≡_, refl, _∙_}
 use Prim.Native.Nat.{ℕ, _-_, _≤_, _<_}
 use native.Mathlib.Decide.{decLt}
+use native.Mathlib.Omega.{arith}
+use borrow.Author.Needs.{needs}
 use lib.ListN.{length, getD, length-set}
 use lib.Seq.{getD-set-other}
 use Rattle.limits.specs.Limits.{most-leaves}
 use Rattle.nearest_pairs.proofs.Search.{PartnersTo, partners-turn}
-use native.Mathlib.Omega.{arith}
-use borrow.Author.Needs.{needs}
 use Rattle.nearest_pairs.proofs.renew_partners.Statement.{statement}
 use Rattle.nearest_pairs.proofs.renew_partners.Tie as tie
-use Rattle.nearest_pairs.proofs.renew_partners.Reads as reads
-use Rattle.nearest_pairs.proofs.renew_partners.Lts as lts
-use Rattle.nearest_pairs.proofs.renewed_if_label.Reads as renewed-if-label-reads
 
 abbrev Inv-loop : tie.InvT-loop
 Inv-loop n label sizes sums a b partners₀ i₀ partners i =
@@ -21,19 +19,9 @@ Inv-loop n label sizes sums a b partners₀ i₀ partners i =
 abbrev μ-loop : tie.MeasureT-loop
 μ-loop n label sizes sums a b partners₀ i₀ partners i = b - i
 
--- src/lib.rt:272:5
 loop-holds : tie.Need-loop-holds Inv-loop μ-loop
 loop-holds c = (omega arith, c .pre .4, λ k l. absurd (omega arith), λ k l m. refl)
 
--- src/lib.rt:273:72
-mul-renewed-if-label : tie.Need-mul-renewed-if-label Inv-loop μ-loop
-mul-renewed-if-label c = search needs
-
--- src/lib.rt:273:72
-element-copy-out-renewed-if-label : tie.Need-element-copy-out-renewed-if-label Inv-loop μ-loop
-element-copy-out-renewed-if-label c = search needs
-
--- src/lib.rt:273:23
 renewed-if-label-requires : tie.Need-renewed-if-label-requires Inv-loop μ-loop
 renewed-if-label-requires c κs =
     let s = c .before .before .before in
@@ -46,23 +34,9 @@ renewed-if-label-requires c κs =
       λ o. rw old (s .pre .5 (l .i) (omega (arith, s .pre .2)) o),
     )
 
--- src/lib.rt:273:9
-mul-partners : tie.Need-mul-partners Inv-loop μ-loop
-mul-partners c = search needs
-
--- src/lib.rt:273:9
-element-write-partners : tie.Need-element-write-partners Inv-loop μ-loop
-element-write-partners c = search needs
-
--- src/lib.rt:274:9
-add-i : tie.Need-add-i Inv-loop μ-loop
-add-i c = search needs
-
--- src/lib.rt:272:5
 loop-less : tie.Need-loop-less Inv-loop μ-loop
 loop-less c = omega arith
 
--- src/lib.rt:272:5
 loop-again : tie.Need-loop-again Inv-loop μ-loop
 loop-again c =
     let s = c .before .before .before .before in
@@ -74,7 +48,6 @@ loop-again c =
       λ k g m. getD-set-other (l .partners) (l .i) k _ 0 (omega arith) ∙ l .inv .3 k (omega arith) m,
     )
 
--- src/lib.rt:256:1
 returns : tie.Need-returns Inv-loop μ-loop
 returns c =
     let s = c .before .before in
@@ -93,12 +66,9 @@ renew-partners-spec =
     Inv-loop
     μ-loop
     loop-holds
-    mul-renewed-if-label
-    element-copy-out-renewed-if-label
+    (λ c. search needs) (λ c. search needs)
     renewed-if-label-requires
-    mul-partners
-    element-write-partners
-    add-i
+    (λ c. search needs) (λ c. search needs) (λ c. search needs)
     loop-less
     loop-again
     returns)

@@ -1,16 +1,12 @@
+-- `nearest_pairs::renewed` meets its contract. The partner of one label after a merge.
 use mathlib.Core.Logic.{_≢_}
 use Prim.Native.Nat.{_<_}
-use Rattle.nearest_pairs.specs.inner.Nearest.{TwoLabels}
-use Rattle.nearest_pairs.proofs.Search.{new-two, old-two, renewed-up, renewed-down}
 use native.Mathlib.Omega.{arith}
 use borrow.Author.Needs.{needs}
+use Rattle.nearest_pairs.specs.inner.Nearest.{TwoLabels}
+use Rattle.nearest_pairs.proofs.Search.{new-two, old-two, renewed-up, renewed-down}
 use Rattle.nearest_pairs.proofs.renewed.Statement.{statement}
 use Rattle.nearest_pairs.proofs.renewed.Tie as tie
-use Rattle.nearest_pairs.proofs.renewed.Reads as reads
-use Rattle.nearest_pairs.proofs.renewed.Lts as lts
-use Rattle.nearest_pairs.proofs.find_partner.Reads as find-partner-reads
-use Rattle.nearest_pairs.proofs.is_stale.Reads as is-stale-reads
-use Rattle.nearest_pairs.proofs.nearer_of_two.Reads as nearer-of-two-reads
 
 -- where the partner is not looked for anew
 fresh :
@@ -37,32 +33,17 @@ both c =
       old-two (s .pre .0) (s .pre .1) (s .pre .2) (s .pre .4) (s .pre .5) (early c) (d .1) (d .2),
     )
 
--- src/lib.rt:220:8
-is-stale-requires : tie.Need-is-stale-requires
-is-stale-requires c κs = search needs
-
--- src/lib.rt:221:9
-find-partner-requires : tie.Need-find-partner-requires
-find-partner-requires c κs = search needs
-
--- src/lib.rt:221:9
-returns : tie.Need-returns
-returns c = search needs
-
--- src/lib.rt:224:9
 returns-2 : tie.Need-returns-2
 returns-2 c =
     c .before .before .before .pre .5 .between (c .if2 .taken)
     (c .before .before .is-stale .ensures (c .before .if1 .left) .2)
 
--- src/lib.rt:227:9
 nearer-of-two-requires : tie.Need-nearer-of-two-requires
 nearer-of-two-requires c κs =
     let s = c .before .before .before .before in
     let t = both (c .before) in
     (s .pre .0, t .1, t .0, c .if3 .taken)
 
--- src/lib.rt:227:9
 returns-3 : tie.Need-returns-3
 returns-3 c =
     let s = c .before .before .before .before .before in
@@ -70,7 +51,6 @@ returns-3 c =
     renewed-up (s .pre .0) (s .pre .1) (s .pre .2) (s .pre .4) (s .pre .5) (early (c .before .before)) (d .1) (d .2)
     (c .nearer-of-two .ensures)
 
--- src/lib.rt:229:5
 nearer-of-two-requires-2 : tie.Need-nearer-of-two-requires-2
 nearer-of-two-requires-2 c κs =
     let s = c .before .before .before .before in
@@ -78,7 +58,6 @@ nearer-of-two-requires-2 c κs =
     let apart = fresh (c .before) .1 in
     (s .pre .0, t .0, t .1, omega arith)
 
--- src/lib.rt:206:1
 returns-4 : tie.Need-returns-4
 returns-4 c =
     let s = c .before .before .before .before .before in
@@ -90,9 +69,7 @@ pub renewed-spec : {M : Type 1} → statement M
 renewed-spec =
     tie.close
     (tie.spec
-    is-stale-requires
-    find-partner-requires
-    returns
+    (λ c κs. search needs) (λ c κs. search needs) (λ c. search needs)
     returns-2
     nearer-of-two-requires
     returns-3
