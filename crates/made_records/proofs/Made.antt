@@ -1,5 +1,5 @@
 -- What may be relied on of the tree records that our operations make (02, request 3). Rebuilt stands only on a tree
--- that has the table given, a poll's at six times its own. Every listing is a tree's, and standard unless it was lent.
+-- that has the table given, a poll's at six times its own; guessed only where no tree has it. Every listing is a tree's, and standard unless it was lent.
 -- Restandardising takes every such record where the room is enough, and keeps its origin. All this follows from one
 -- statement of a record, `Sound`, which `made-sound` shows operation by operation.
 use mathlib.Core.Path.{_≡_, refl, ap, sym, _∙_}
@@ -14,7 +14,7 @@ use Rattle.limits.specs.Limits.{IsLeafCount, scale-of}
 use Rattle.refusals.specs.Refusals.{Answer, accepted, refused, answered}
 use Rattle.refusals.proofs.Answers.{accepted-same, accepted-not-refused, answered-accepted, unless-accepted}
 use Rattle.tree_records.specs.declared.Origin.{Origin}
-use Rattle.tree_records.specs.declared.Origin.the-variants.{Rebuilt, Listed, Imported}
+use Rattle.tree_records.specs.declared.Origin.the-variants.{Rebuilt, Listed, Imported, Guessed}
 use Rattle.tree_records.specs.Origins.{origin-number}
 use Rattle.tree_records.specs.Records.{TreeRecord, marked}
 use Rattle.trees.specs.Listings.{KeepsRules, standard}
@@ -39,7 +39,7 @@ use Rattle.record_operations.specs.Operations.{rebuild-record, sheet-record, gu
 use Rattle.record_operations.specs.Operations.{import-record, restandardise-record}
 use Rattle.made_records.specs.Made.{Given, sheet-table, Made, rebuild, rebuild-sheet, rebuild-guided}
 use Rattle.made_records.specs.Made.{guess, guess-sheet, lend, import, restandardise, tree, HasTableGiven}
-use Rattle.made_records.specs.Made.{has-table}
+use Rattle.made_records.specs.Made.{has-table, NoTreeHasGiven, no-tree}
 use Rattle.made_records.proofs.Restandardising.{restandardise-same, restandardise-accepts}
 
 -- What is so of every record that our operations make, with this table given.
@@ -48,6 +48,7 @@ record Sound (R : TreeRecord) (g : Given) : Type 0 where
   pub keeps : KeepsRules (R .leaves) (R .listing)
   pub is-standard : R .origin ≢ Listed → standard (R .leaves) (tree R) ≡ R .listing
   pub rebuilt-has : R .origin ≡ Rebuilt → HasTableGiven R g
+  pub none-has : R .origin ≡ Guessed → NoTreeHasGiven R g
 
 -- It is so of an answer's record where it is so of every listing that the answer may accept.
 marked-sound :
@@ -69,6 +70,7 @@ rebuild-sound kind n t room a e own = marked-sound n Rebuilt a e (λ l given.
       keeps = rebuilt-is-standard kind n t room l e′ .0;
       is-standard = λ _. rebuilt-is-standard kind n t room l e′ .1;
       rebuilt-has = λ _. has-table (rebuilt-has-the-table kind n t room l e′);
+      none-has = λ same. absurd (omega (arith, ap origin-number same));
     })
 
 -- A guess: its reply says what is so of it, whether it is guessed or rebuilt.
@@ -83,6 +85,7 @@ guess-sound kind n t (accepted r) e is =
       keeps = reply .is-a-tree;
       is-standard = λ _. reply .is-standard;
       rebuilt-has = λ same. has-table (reply .rebuilt-has same);
+      none-has = λ same. no-tree (reply .guessed-exactly .0 same);
     } in
     rw (accepted-same _ _ e) at sound
 guess-sound kind n t (refused x) e is = absurd (accepted-not-refused _ x (sym e))
@@ -98,6 +101,7 @@ lend-sound n l e = marked-sound n Listed (answered (listing-refusal n l 0 0) l) 
       keeps = rw (a .1) at (lent .keeps);
       is-standard = λ other. absurd (other refl);
       rebuilt-has = λ same. absurd (omega (arith, ap origin-number same));
+      none-has = λ same. absurd (omega (arith, ap origin-number same));
     })
 
 -- An import, whose listing is standard.
@@ -111,6 +115,7 @@ import-sound S t room e = marked-sound (leaves-of S) Imported (import-answer S t
       keeps = drawn .1 .keeps;
       is-standard = λ _. drawn .1 .is-standard;
       rebuilt-has = λ same. absurd (omega (arith, ap origin-number same));
+      none-has = λ same. absurd (omega (arith, ap origin-number same));
     })
 
 -- Restandardising, which leaves the leaf count, the origin and the table as they were.
@@ -118,6 +123,10 @@ table-kept :
     {R R′ : TreeRecord} {g : Given} → table-of (R′ .leaves) (tree R′) ≡ table-of (R .leaves) (tree R)
     → HasTableGiven R g → HasTableGiven R′ g
 table-kept same (has-table {kind} h) = has-table (h ∙ ap (times (scale-of kind)) (sym same))
+
+leaves-kept :
+    {R R′ : TreeRecord} {g : Given} → R′ .leaves ≡ R .leaves → NoTreeHasGiven R g → NoTreeHasGiven R′ g
+leaves-kept same (no-tree h) = no-tree (rw (sym same) at h)
 
 restandardise-sound :
     (room : ℕ) {R R′ : TreeRecord} {g : Given} → Sound R g
@@ -129,6 +138,7 @@ restandardise-sound room {R} v e =
       keeps = again .keeps-rules;
       is-standard = λ _. again .is-standard;
       rebuilt-has = λ same. table-kept (again .same-table) (v .rebuilt-has (sym (again .same-origin) ∙ same));
+      none-has = λ same. leaves-kept (again .same-leaves) (v .none-has (sym (again .same-origin) ∙ same));
     }
 
 -- One clause an operation.
@@ -168,6 +178,10 @@ made-none {R} made e = none-given (made-rebuilt made e)
   where
     none-given : HasTableGiven R none → ⊥
     none-given = elim [ ]
+
+-- A record of origin guessed that our operations made was given a table that no tree has.
+pub made-guessed : {R : TreeRecord} {g : Given} → Made R g → R .origin ≡ Guessed → NoTreeHasGiven R g
+made-guessed made e = made-sound made .none-has e
 
 -- Every record is a tree's,
 pub made-is-a-tree :

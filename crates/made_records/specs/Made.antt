@@ -1,5 +1,5 @@
 -- Which tree records can come out of a chain of our operations (02, request 3), one case an operation; and what rebuilt
--- stands for. What may be relied on of them is shown in proofs/Made.antt.
+-- and guessed stand for. What may be relied on of them is shown in proofs/Made.antt.
 use mathlib.Core.Path.{_≡_}
 use mathlib.Core.List.{List}
 use mathlib.Core.Option.{Option, none, some}
@@ -12,6 +12,7 @@ use Rattle.tree_records.specs.Records.{TreeRecord}
 use Rattle.trees.specs.Trees.{Tree}
 use Rattle.trees.specs.Listings.{tree-of}
 use Rattle.trees.specs.Tables.{HasTable}
+use Rattle.merging.specs.Meaning.{HasNoTree}
 use Rattle.packed_tables.specs.Packed.{table-with}
 use Rattle.sheet_rules.specs.Sheets.{leaves-of, cells-of}
 use Rattle.guess_answers.specs.Operations.{guess-record, sheet-guess-record}
@@ -63,3 +64,7 @@ tree R = tree-of (R .leaves) (R .listing)
 pub data HasTableGiven (R : TreeRecord) : Given → Type 0 where
   has-table :
       {kind : Kind} {t : List ℕ} → HasTable (R .leaves) (scale-of kind) t (tree R) → HasTableGiven R (some (kind, t))
+
+-- a table was given, and no tree of the record's leaves has it
+pub data NoTreeHasGiven (R : TreeRecord) : Given → Type 0 where
+  no-tree : {kind : Kind} {t : List ℕ} → HasNoTree (R .leaves) (scale-of kind) t → NoTreeHasGiven R (some (kind, t))
