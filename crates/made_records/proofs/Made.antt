@@ -1,7 +1,8 @@
 -- What may be relied on of the tree records that our operations make (02, request 3). Rebuilt stands only on a tree
--- that has the table given, a poll's at six times its own; guessed only where no tree has it. Every listing is a tree's, and standard unless it was lent.
--- Restandardising takes every such record where the room is enough, and keeps its origin. All this follows from one
--- statement of a record, `Sound`, which `made-sound` shows operation by operation.
+-- that has the table given, a poll's at six times its own; guessed only where no tree has it. Every listing is a
+-- tree's, and standard unless it was lent. Restandardising takes every such record where the room is enough, and keeps
+-- its origin. All this follows from one statement of a record, `Sound`, which `made-sound` shows operation by
+-- operation.
 use mathlib.Core.Path.{_≡_, refl, ap, sym, _∙_}
 use mathlib.Core.Logic.{_≢_}
 use mathlib.Core.List.{List, flatMap}
