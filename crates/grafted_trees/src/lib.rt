@@ -1,0 +1,1 @@
+// Grafting: definitions and laws. There is no code here.
