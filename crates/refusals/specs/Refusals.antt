@@ -9,7 +9,7 @@ use Rattle.refusals.specs.declared.Refusal.{Refusal}
 use Rattle.refusals.specs.declared.Refusal.the-variants.{LeafCount, InputLength, OutputRoom, Diagonal, Halves}
 use Rattle.refusals.specs.declared.Refusal.the-variants.{NoTree, Child, NamedBefore, Question, Record}
 use Rattle.refusals.specs.declared.Refusal.the-variants.{PairingCode, Proposal, SheetEnds, SheetLength}
-use Rattle.refusals.specs.declared.Refusal.the-variants.{Name, SameName, Grammar, NotBinary, Unmatched}
+use Rattle.refusals.specs.declared.Refusal.the-variants.{Name, SameName, Grammar, NotBinary, Unmatched, NotOwn}
 use Rattle.refusals.specs.declared.Outcome.{Outcome}
 use Rattle.refusals.specs.declared.Outcome.the-variants.{Done, Refused}
 
@@ -34,6 +34,7 @@ number-of (SameName i) = 16
 number-of (Grammar k) = 17
 number-of NotBinary = 18
 number-of Unmatched = 19
+number-of NotOwn = 20
 
 -- the figures returned with it
 abbrev pub figures-of : Refusal → List ℕ
@@ -56,6 +57,7 @@ figures-of (SameName i) = i ∷ []
 figures-of (Grammar k) = k ∷ []
 figures-of NotBinary = []
 figures-of Unmatched = []
+figures-of NotOwn = []
 
 -- what an operation answers: its result, or a refusal
 pub data Answer (A : Type 0) : Type 0 where

@@ -41,6 +41,8 @@ pub enum Refusal {
     NotBinary,
     // 19: a name of a Newick text is unknown, repeated or missing
     Unmatched,
+    // 20: the edge or leaf that is named is absent, or the table is not the tree's own
+    NotOwn,
 }
 
 // What an operation answers when its result, if it has one, stands in a lent buffer.
@@ -73,5 +75,6 @@ pub fn number(r: Refusal) -> u32
         Refusal::Grammar(_) => 17,
         Refusal::NotBinary => 18,
         Refusal::Unmatched => 19,
+        Refusal::NotOwn => 20,
     }
 }

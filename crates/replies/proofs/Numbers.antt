@@ -6,7 +6,7 @@ use Rattle.refusals.specs.declared.Refusal.{Refusal}
 use Rattle.refusals.specs.declared.Refusal.the-variants.{LeafCount as Count, InputLength, OutputRoom, Diagonal, Halves}
 use Rattle.refusals.specs.declared.Refusal.the-variants.{NoTree, Child, NamedBefore, Question, Record, PairingCode}
 use Rattle.refusals.specs.declared.Refusal.the-variants.{Proposal, SheetEnds, SheetLength, Name, SameName}
-use Rattle.refusals.specs.declared.Refusal.the-variants.{Grammar, NotBinary, Unmatched}
+use Rattle.refusals.specs.declared.Refusal.the-variants.{Grammar, NotBinary, Unmatched, NotOwn}
 use Rattle.refusals.specs.Refusals.{number-of}
 use Rattle.replies.specs.Replies.{eight-bits}
 
@@ -30,3 +30,4 @@ numbered (SameName i) = (omega arith, omega arith, λ h. absurd (omega arith))
 numbered (Grammar k) = (omega arith, omega arith, λ h. absurd (omega arith))
 numbered NotBinary = (omega arith, omega arith, λ h. absurd (omega arith))
 numbered Unmatched = (omega arith, omega arith, λ h. absurd (omega arith))
+numbered NotOwn = (omega arith, omega arith, λ h. absurd (omega arith))

@@ -51,6 +51,7 @@ fn figure_of(r: Refusal) -> usize
         Refusal::Grammar(k) => k,
         Refusal::NotBinary => 0,
         Refusal::Unmatched => 0,
+        Refusal::NotOwn => 0,
     }
 }
 

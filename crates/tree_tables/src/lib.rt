@@ -37,8 +37,8 @@ fn write_row(
     }
 }
 
-// The table of the tree that a listing stands for.
-fn fill_table(n: usize, listing: &[u16], out: &mut [u32])
+// The table of the tree that a listing stands for, written at the front of `out`. For the crates above.
+pub fn fill_table(n: usize, listing: &[u16], out: &mut [u32])
     requires { ⌜ IsLeafCount n × KeepsRules n (now listing) × (n * n ≤ length (now out)) ⌝ }
     ensures { λ _. ⌜ now (out .exit)
         ≡ table-of n (tree-of n (now (listing .entry))) ++ drop (n * n) (now (out .entry)) ⌝ }

@@ -6,8 +6,11 @@ use Prim.Native.Nat.{ℕ, _-_, _*_, _^_, _≤_, _<_}
 use native.Mathlib.Nat.{mul-le-mul, mul-le-mul-left, mul-le-mul-right}
 use native.Mathlib.Omega.{arith}
 use native.Mathlib.Decide.{decLt}
+use borrow.Author.Tests.{eqb-true, eq-eqb}
+use lib.Dec.{eqb}
 use Rattle.base.specs.Numbers.{count-below, sum-below, pair-sum, distance}
 use Rattle.base.specs.Lists.{any-in}
+use Rattle.base.proofs.Bools.{bool-iff}
 use Rattle.base.proofs.Sums.{pair-sum-ext, zero-pair-sum, pair-sum-zero, pair-sum-le}
 use Rattle.base.proofs.Sums.{distance-same, distance-zero, distance-most}
 use Rattle.limits.specs.Limits.{IsLeafCount, largest-cell}
@@ -15,10 +18,10 @@ use Rattle.pair_counts.specs.Pairs.{pairs-below}
 use Rattle.trees.specs.Trees.{Tree, leaf, node, leaves, ordered}
 use Rattle.trees.specs.Edges.{edges}
 use Rattle.trees.specs.Quartets.{separates, paired, other, quartets}
-use Rattle.trees.specs.Tables.{cell, HasTable, IsTable}
+use Rattle.trees.specs.Tables.{cell, HasTable, is-own-table, IsTable}
 use Rattle.trees.specs.Gaps.{gap-size, total-gap}
 use Rattle.trees.proofs.Quartets.{quartets-ij, ordered-quartets, cell-limit}
-use Rattle.trees.proofs.Tables.{halves-equal, HasCells, to-cells, of-cells}
+use Rattle.trees.proofs.Tables.{halves-equal, HasCells, to-cells, of-cells, scale-one, own-exactly}
 
 -- three leaves have no quartet: each cell above the diagonal is a gap
 gap-example :
@@ -68,3 +71,11 @@ module _ (n s : ℕ) (t : List ℕ) (T : Tree) where
       each i j l m =
           let count = mul-le-mul-left s (cell-limit n c T i j (omega arith) m) in
           distance-most _ _ _ (omega (arith, cells i j (omega arith) m)) (omega (arith, count))
+
+-- a table with a zero diagonal and equal halves is the tree's own exactly when its total gap is 0
+pub own-by-gap :
+    (n : ℕ) (t : List ℕ) (T : Tree) → IsTable n t → is-own-table n t T ≡ eqb (total-gap n 1 t T) 0
+own-by-gap n t T is =
+    bool-iff _ _
+    (λ h. eq-eqb _ _ (gap-none n 1 t T (scale-one n t T .1 (own-exactly n t T (is .cells) .0 h))))
+    (λ h. own-exactly n t T (is .cells) .1 (scale-one n t T .0 (gap-zero n 1 t T is .0 (eqb-true _ _ h))))

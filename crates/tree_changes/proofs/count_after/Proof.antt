@@ -1,0 +1,12 @@
+-- `tree_changes::count_after` meets its contract: a graft adds a leaf, and a prune takes one away.
+use borrow.Author.Needs.{needs}
+use Rattle.tree_changes.proofs.count_after.Statement.{statement}
+use Rattle.tree_changes.proofs.count_after.Tie as tie
+
+pub count-after-spec : {M : Type 1} → statement M
+count-after-spec =
+    tie.close
+    (tie.spec
+    (λ c. search needs) (λ c. search needs) (λ c. search needs) (λ c. search needs)
+    (λ c. rw (c .enum-told .given .1))
+    (λ c. rw (c .enum-told2 .given .1)))

@@ -1,0 +1,129 @@
+-- `tree_changes::judge` meets its contract: the first leaf count stops it, or the sizes do, or the rules, or the cells,
+-- or it is decided by what is named and by the tree's own table.
+use mathlib.Core.Path.{_≡_, ap, sym, _∙_}
+use mathlib.Core.Bool.{_&&_}
+use mathlib.Core.Option.{none}
+use borrow.Author.Needs.{needs}
+use borrow.Author.Tests.{not-true, not-false}
+use lib.ListN.{length}
+use Rattle.limits.specs.declared.Kind.the-variants.{Counts}
+use Rattle.limits.specs.Limits.{IsLeafCount}
+use Rattle.refusals.specs.declared.Refusal.the-variants.{NotOwn}
+use Rattle.refusals.specs.Refusals.{refuse, outcome-of}
+use Rattle.refusals.proofs.Answers.{call-passed}
+use Rattle.checks.proofs.Sizes.{is-leaf-count}
+use Rattle.trees.specs.Listings.{tree-of}
+use Rattle.trees.specs.Tables.{is-own-table}
+use Rattle.listings.specs.Operations.{listing-refusal}
+use Rattle.table_checks.specs.Operations.{table-refusal}
+use Rattle.tree_changes.specs.Operations.{count-after}
+use Rattle.tree_changes.specs.inner.Sizes.{change-sizes-refusal}
+use Rattle.tree_changes.proofs.Refusals.{first-count-told, sizes-stop, rules-stop, cells-stop, own-decides}
+use Rattle.tree_changes.proofs.Refusals.{keeps, is-table}
+use Rattle.tree_changes.proofs.judge.Statement.{statement}
+use Rattle.tree_changes.proofs.judge.Tie as tie
+
+returns : tie.Need-returns
+returns c = first-count-told _ _ _ _ _ _ (sym (c .before .leaf-count .ensures) ∙ not-true _ (c .if1 .taken))
+
+-- the leaf count passed its test
+count : (c : tie.Else1) → IsLeafCount (c .before .before .before .before .args .n)
+count c = is-leaf-count _ (sym (c .before .leaf-count .ensures) ∙ not-false _ (c .if1 .left))
+
+-- what was judged of the sizes
+sizes :
+    (c : tie.After-judge-sizes)
+    → let a = c .before .before .before .before .before .before .args in
+    c .judge-sizes .result
+    ≡ outcome-of
+    (change-sizes-refusal (a .n) (count-after (a .n) (a .change)) (length (a .listing .now)) (length (a .table .now))
+    (a .room) (a .space))
+sizes c =
+    let a = c .before .before .before .before .before .before .args in
+    c .judge-sizes .ensures
+    ∙ ap (λ m. outcome-of
+    (change-sizes-refusal (a .n) m (length (a .listing .now)) (length (a .table .now)) (a .room) (a .space)))
+    (c .before .count-after .ensures)
+
+returns-2 : tie.Need-returns-2
+returns-2 c =
+    let s = c .before .before in
+    sizes-stop _ _ _ _ _ _ (count (s .before .before)) (sizes s) (c .enum-told2 .given .1)
+
+-- nothing of them is refused
+fine :
+    (c : tie.After-enum-told)
+    → let a = c .before .before .before .before .before .before .before .before .args in
+    change-sizes-refusal (a .n) (count-after (a .n) (a .change)) (length (a .listing .now)) (length (a .table .now))
+    (a .room) (a .space)
+    ≡ none
+fine c = call-passed _ (sizes (c .before .before)) (c .enum-told .given .1)
+
+first : (c : tie.After-enum-told) → IsLeafCount (c .before .before .before .before .before .before .before .before .args .n)
+first c = count (c .before .before .before .before)
+
+returns-3 : tie.Need-returns-3
+returns-3 c =
+    let made = c .before .before in
+    let s = made .before in
+    rules-stop _ _ _ _ _ _ (first s) (fine s) (made .judge .ensures) (c .enum-told4 .given .1)
+
+-- nor of the rules, nor of the cells
+ruled :
+    (c : tie.After-enum-told3)
+    → let a = c .before .before .before .before .before .before .before .before .before .before .before .args in
+    listing-refusal (a .n) (a .listing .now) 0 0 ≡ none
+ruled c = call-passed _ (c .before .before .judge .ensures) (c .enum-told3 .given .1)
+
+returns-4 : tie.Need-returns-4
+returns-4 c =
+    let made = c .before .before in
+    let s = made .before .before .before .before in
+    cells-stop _ _ _ _ _ _ (first s) (fine s) (ruled (made .before)) (made .judge2 .ensures) (c .enum-told6 .given .1)
+
+is-there-requires : tie.Need-is-there-requires
+is-there-requires c κs = first (c .before .before .before .before .before .before)
+
+judge-own-requires : tie.Need-judge-own-requires
+judge-own-requires c κs =
+    let passed = c .before in
+    let listed = passed .before .before .before in
+    let s = listed .before .before .before in
+    let a = s .before .before .before .before .before .before .before .before .args in
+    let tabled = call-passed _ (passed .before .before .judge2 .ensures) (passed .enum-told5 .given .1) in (
+      first s,
+      keeps (a .n) (a .listing .now) (a .table .now) (a .change) (a .room) (a .space) (first s) (fine s) (ruled listed),
+      is-table (a .n) (a .listing .now) (a .table .now) (a .change) (a .room) (a .space) (first s) (fine s)
+      (ruled listed) tabled,
+    )
+
+returns-5 : tie.Need-returns-5
+returns-5 c =
+    let passed = c .before .before in
+    let listed = passed .before .before .before in
+    let s = listed .before .before .before in
+    let a = s .before .before .before .before .before .before .before .before .args in
+    let tabled = call-passed _ (passed .before .before .judge2 .ensures) (passed .enum-told5 .given .1) in
+    own-decides (a .n) (a .listing .now) (a .table .now) (a .change) (a .room) (a .space) (first s) (fine s)
+    (ruled listed) tabled
+    (c .judge-own .ensures
+    ∙ ap (λ b. outcome-of (refuse (b && is-own-table (a .n) (a .table .now) (tree-of (a .n) (a .listing .now))) NotOwn))
+    (c .before .is-there .ensures))
+
+pub judge-spec : {M : Type 1} → statement M
+judge-spec =
+    tie.close
+    (tie.spec
+    (λ c κs. search needs)
+    returns
+    (λ c κs. count c)
+    (λ c κs. count (c .before))
+    (λ c. search needs) (λ c. search needs)
+    returns-2
+    (λ c κs. search needs) (λ c. search needs) (λ c. search needs)
+    returns-3
+    (λ c κs. search needs) (λ c. search needs) (λ c. search needs)
+    returns-4
+    is-there-requires
+    judge-own-requires
+    returns-5)

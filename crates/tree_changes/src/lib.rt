@@ -1,0 +1,227 @@
+// The operations that change a tree and keep its table beside it: graft and prune.
+use limits::Kind;
+use refusals::Outcome;
+use refusals::Refusal;
+use tree_records::Origin;
+use tree_records::TreeOutcome;
+use tree_records::mark;
+ghost use mathlib.Core.Path.{_≡_};
+ghost use mathlib.Core.Bool.{true, _&&_};
+ghost use mathlib.Core.List.{_++_};
+ghost use Prim.Native.Nat.{_-_, _*_, _≤_};
+ghost use lib.ListN.{length, take, drop};
+ghost use Rattle.limits.specs.Limits.{IsLeafCount};
+ghost use Rattle.refusals.specs.declared.Refusal.the-variants.{NotOwn};
+ghost use Rattle.refusals.specs.Refusals.{refuse, outcome-of, outcome, written};
+ghost use Rattle.tree_records.specs.Records.{tree-outcome};
+ghost use Rattle.trees.specs.Listings.{KeepsRules, tree-of, standard};
+ghost use Rattle.trees.specs.Tables.{table-of, is-own-table, IsTable};
+ghost use Rattle.grafted_trees.specs.Grafts.{names-edge};
+ghost use Rattle.tree_changes.specs.declared.Change.the-variants.{Graft, Prune};
+ghost use Rattle.tree_changes.specs.Operations.{count-after, is-there, changed, change-refusal};
+ghost use Rattle.tree_changes.specs.Operations.{change-answer, change-record, change-table};
+ghost use Rattle.tree_changes.specs.inner.Sizes.{change-sizes-refusal};
+
+// A change of a tree on n leaves.
+pub enum Change {
+    // leaf n is put on this edge, named by the node below it in the standard listing
+    Graft(usize),
+    // this leaf is removed, and higher leaves move down by one
+    Prune(usize),
+}
+
+// How many leaves the tree has afterwards.
+fn count_after(n: usize, change: Change) -> usize
+    requires { ⌜ IsLeafCount n ⌝ }
+    ensures { λ r. ⌜ r ≡ count-after n change ⌝ }
+{
+    match change {
+        Change::Graft(_) => n + 1,
+        Change::Prune(_) => n - 1,
+    }
+}
+
+// Whether a number names an edge of a tree on n leaves: 1 to 2n - 3.
+fn is_edge(n: usize, e: usize) -> bool
+    requires { ⌜ IsLeafCount n ⌝ }
+    ensures { λ r. ⌜ r ≡ names-edge n e ⌝ }
+{
+    1 <= e && e <= 2 * n - 3
+}
+
+// Whether the edge or the leaf that is named is there.
+fn is_there(n: usize, change: Change) -> bool
+    requires { ⌜ IsLeafCount n ⌝ }
+    ensures { λ r. ⌜ r ≡ is-there n change ⌝ }
+{
+    match change {
+        Change::Graft(edge) => is_edge(n, edge),
+        Change::Prune(leaf) => leaf < n,
+    }
+}
+
+// A listing and a table of n leaves, and room for those of m leaves: 1 for m, 2, 3.
+fn judge_sizes(
+    n: usize,
+    m: usize,
+    numbers: usize,
+    cells: usize,
+    room: usize,
+    space: usize,
+) -> Outcome
+    requires { ⌜ IsLeafCount n ⌝ }
+    ensures { λ r. ⌜ r ≡ outcome-of (change-sizes-refusal n m numbers cells room space) ⌝ }
+{
+    if !checks::leaf_count(m) {
+        return Outcome::Refused(Refusal::LeafCount);
+    }
+    if numbers != checks::listing_numbers(n) {
+        return Outcome::Refused(Refusal::InputLength);
+    }
+    if cells != checks::table_cells(n) {
+        return Outcome::Refused(Refusal::InputLength);
+    }
+    if room < checks::listing_numbers(m) {
+        return Outcome::Refused(Refusal::OutputRoom);
+    }
+    if space < checks::table_cells(m) {
+        return Outcome::Refused(Refusal::OutputRoom);
+    }
+    Outcome::Done
+}
+
+// Whether what is named is there and the table is the tree's own: 20. The table has equal halves, so it is the tree's
+// own exactly where its total gap is 0.
+fn judge_own(there: bool, n: usize, listing: &[u16], table: &[u32]) -> Outcome
+    requires { ⌜ IsLeafCount n × KeepsRules n (now listing) × IsTable n (now table) ⌝ }
+    ensures { λ r. ⌜ r ≡ outcome-of
+        (refuse (there && is-own-table n (now (table .entry)) (tree-of n (now (listing .entry)))) NotOwn) ⌝ }
+{
+    if !there {
+        return Outcome::Refused(Refusal::NotOwn);
+    }
+    if total_gaps::total_gap(Kind::Counts, n, table, listing) == 0 {
+        return Outcome::Done;
+    }
+    Outcome::Refused(Refusal::NotOwn)
+}
+
+// All that is judged before a tree is changed: 1, 2, 3, 7, 8, 4, 5, 20.
+fn judge(
+    change: Change,
+    n: usize,
+    listing: &[u16],
+    table: &[u32],
+    room: usize,
+    space: usize,
+) -> Outcome
+    ensures { λ r. ⌜ r
+        ≡ outcome-of (change-refusal n (now (listing .entry)) (now (table .entry)) change room space) ⌝ }
+{
+    if !checks::leaf_count(n) {
+        return Outcome::Refused(Refusal::LeafCount);
+    }
+    let m = count_after(n, change);
+    let sizes = judge_sizes(n, m, listing.len(), table.len(), room, space);
+    let Outcome::Done = sizes else {
+        return sizes;
+    };
+    let rules = listings::judge(n, listing, 0, 0);
+    let Outcome::Done = rules else {
+        return rules;
+    };
+    let cells = table_checks::judge(Kind::Counts, n, table, 0, 0);
+    let Outcome::Done = cells else {
+        return cells;
+    };
+    judge_own(is_there(n, change), n, listing, table)
+}
+
+// Writes the standard listing of the changed tree at the front of `out`.
+fn write_rows(change: Change, n: usize, listing: &[u16], out: &mut [u16])
+    requires { ⌜ IsLeafCount n × IsLeafCount (count-after n change) × KeepsRules n (now listing)
+        × (is-there n change ≡ true) × (2 * (count-after n change - 2) ≤ length (now out)) ⌝ }
+    ensures { λ _. ⌜ now (out .exit)
+        ≡ standard (count-after n change) (changed n (tree-of n (now (listing .entry))) change)
+        ++ drop (2 * (count-after n change - 2)) (now (out .entry)) ⌝ }
+{}
+
+// Writes the table of the tree whose listing stands at the front of some numbers.
+fn write_table(n: usize, numbers: &[u16], out: &mut [u32])
+    requires { ⌜ IsLeafCount n × (2 * (n - 2) ≤ length (now numbers))
+        × KeepsRules n (take (2 * (n - 2)) (now numbers)) × (n * n ≤ length (now out)) ⌝ }
+    ensures { λ _. ⌜ now (out .exit)
+        ≡ table-of n (tree-of n (take (2 * (n - 2)) (now (numbers .entry)))) ++ drop (n * n) (now (out .entry)) ⌝ }
+{
+    let end = 2 * (n - 2);
+    tree_tables::fill_table(n, &numbers[..end], out);
+}
+
+// Judges a change, and writes the changed tree's standard listing and its table, counted afresh.
+fn apply(
+    change: Change,
+    n: usize,
+    listing: &[u16],
+    table: &[u32],
+    out: &mut [u16],
+    cells: &mut [u32],
+) -> Outcome
+    ensures answer { λ r. ⌜ r ≡ outcome (change-answer n (now (listing .entry)) (now (table .entry)) change
+        (length (now (out .entry))) (length (now (cells .entry)))) ⌝ }
+    ensures listing { λ _. ⌜ now (out .exit) ≡ written (change-answer n (now (listing .entry)) (now (table .entry))
+        change (length (now (out .entry))) (length (now (cells .entry)))) (now (out .entry)) ⌝ }
+    ensures table { λ _. ⌜ now (cells .exit) ≡ written (change-table n (now (listing .entry)) (now (table .entry))
+        change (length (now (out .entry))) (length (now (cells .entry)))) (now (cells .entry)) ⌝ }
+{
+    let judged = judge(change, n, listing, table, out.len(), cells.len());
+    let Outcome::Done = judged else {
+        return judged;
+    };
+    write_rows(change, n, listing, out);
+    write_table(count_after(n, change), out, cells);
+    judged
+}
+
+// Grafts leaf n on an edge: writes the standard listing of the grafted tree and its table, and marks it grafted.
+pub fn graft(
+    n: usize,
+    listing: &[u16],
+    table: &[u32],
+    edge: usize,
+    out: &mut [u16],
+    cells: &mut [u32],
+) -> TreeOutcome
+    ensures answer { λ r. ⌜ r ≡ tree-outcome (change-record n (now (listing .entry)) (now (table .entry)) (Graft edge)
+        (length (now (out .entry))) (length (now (cells .entry)))) ⌝ }
+    ensures listing { λ _. ⌜ now (out .exit) ≡ written (change-answer n (now (listing .entry)) (now (table .entry))
+        (Graft edge) (length (now (out .entry))) (length (now (cells .entry)))) (now (out .entry)) ⌝ }
+    ensures table { λ _. ⌜ now (cells .exit) ≡ written (change-table n (now (listing .entry)) (now (table .entry))
+        (Graft edge) (length (now (out .entry))) (length (now (cells .entry)))) (now (cells .entry)) ⌝ }
+{
+    mark(
+        Origin::Grafted,
+        apply(Change::Graft(edge), n, listing, table, out, cells),
+    )
+}
+
+// Prunes a leaf: writes the standard listing of the pruned tree and its table, and marks it grafted.
+pub fn prune(
+    n: usize,
+    listing: &[u16],
+    table: &[u32],
+    leaf: usize,
+    out: &mut [u16],
+    cells: &mut [u32],
+) -> TreeOutcome
+    ensures answer { λ r. ⌜ r ≡ tree-outcome (change-record n (now (listing .entry)) (now (table .entry)) (Prune leaf)
+        (length (now (out .entry))) (length (now (cells .entry)))) ⌝ }
+    ensures listing { λ _. ⌜ now (out .exit) ≡ written (change-answer n (now (listing .entry)) (now (table .entry))
+        (Prune leaf) (length (now (out .entry))) (length (now (cells .entry)))) (now (out .entry)) ⌝ }
+    ensures table { λ _. ⌜ now (cells .exit) ≡ written (change-table n (now (listing .entry)) (now (table .entry))
+        (Prune leaf) (length (now (out .entry))) (length (now (cells .entry)))) (now (cells .entry)) ⌝ }
+{
+    mark(
+        Origin::Grafted,
+        apply(Change::Prune(leaf), n, listing, table, out, cells),
+    )
+}
