@@ -1,7 +1,7 @@
 -- Each number 1 to 2n − 3 names one edge of a tree on n leaves. The idea: a subtree of a leaves whose first node is
 -- number r has its leaves' numbers, and the numbers from r on to r + a − 2, each once.
 use mathlib.Core.Path.{_≡_, refl, _∙_}
-use mathlib.Core.Logic.{inl, inr, _≢_}
+use mathlib.Core.Logic.{_≢_}
 use mathlib.Core.Bool.{true, false}
 use Prim.Native.Nat.{ℕ, _+_, _-_, _*_, _≤_, _<_}
 use native.Mathlib.Omega.{arith}
@@ -11,7 +11,7 @@ use lib.Dec.{leb}
 use Rattle.base.proofs.Bools.{never, and-both, and-is, eqb-same}
 use Rattle.trees.specs.Trees.{Tree, leaf, node, size, occurrences, IsTree, ordered}
 use Rattle.trees.specs.Listings.{number-in}
-use Rattle.trees.proofs.Trees.{size-node, size-pos, occurrences-node, tree-on, tree-size, ordered-tree}
+use Rattle.trees.proofs.Trees.{size-node, size-pos, occurrences-node, ordered-tree, ordered-size}
 use Rattle.trees.proofs.Blocks.{number-node}
 use Rattle.grafted_trees.specs.Grafts.{names-edge}
 use Rattle.grafted_trees.specs.inner.EdgeNumbers.{edges-at}
@@ -110,8 +110,8 @@ edges-in e (node A B) r l m = elim (ℕ-discrete e (number-in (node A B) r)) [
 
 -- A tree on n leaves.
 module _ (n : ℕ) (T : Tree) (big : 3 ≤ n) (h : IsTree n T) where
-  nodes : size (ordered T) + 1 ≡ n
-  nodes = tree-size n (ordered T) (tree-on n (ordered T) (ordered-tree n T h)) (omega arith)
+  many : size (ordered T) + 1 ≡ n
+  many = ordered-size n T (omega arith) h
 
   -- each number 1 to 2n − 3 names exactly one edge
   pub edge-once : (e : ℕ) → names-edge n e ≡ true → edges-at e (ordered T) n ≡ 1
@@ -121,7 +121,7 @@ module _ (n : ℕ) (T : Tree) (big : 3 ≤ n) (h : IsTree n T) where
       elim (decLt e n) [
         | yes l ↦ edges-low e (ordered T) n l ∙ as-leaf ∙ rw (lt-ltb 0 e (range .0), lt-ltb e n l)
         | no g ↦
-            let inner = edges-in e (ordered T) n (omega arith) (omega (arith, nodes, range .1)) in
+            let inner = edges-in e (ordered T) n (omega arith) (omega (arith, many, range .1)) in
             let no-leaf : occurrences e (ordered T) ≡ 0 =
             as-leaf ∙ rw (lt-ltb 0 e (range .0), le-ltb e n (omega arith)) in
             omega arith
@@ -136,7 +136,7 @@ module _ (n : ℕ) (T : Tree) (big : 3 ≤ n) (h : IsTree n T) where
           | yes l ↦ l
           | no g ↦ absurd (never (range-edge n e (omega arith) (omega arith)) s)
         ] in
-        edges-high e (ordered T) n (omega (arith, nodes))
+        edges-high e (ordered T) n (omega (arith, many))
         ∙ ordered-tree n T h e
         ∙ rw (lt-ltb 0 e (omega arith), le-ltb e n (omega arith))
   ]
