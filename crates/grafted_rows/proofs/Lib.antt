@@ -1,1 +1,2 @@
-pub mod GraftedSubtrees
+mod Blocks
+mod GraftedSubtrees

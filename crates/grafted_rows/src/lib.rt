@@ -37,7 +37,8 @@ fn write_row(n: usize, t: usize, first: u16, second: u16, out: &mut [u16]) -> Wr
     }
 }
 
-// Writes the rows of what stands under number v, with the new leaf on an edge below it: from row s on, in post-order.
+// Writes the rows of what stands under number v, in post-order from row s on: with the new leaf where the edge is below
+// v, and not yet where it is the one above v.
 fn write_below(
     n: usize,
     edge: usize,
@@ -63,7 +64,7 @@ fn write_below(
     write_row(n, b.next, a.number, b.number, out)
 }
 
-// The same, and where v names the edge, the row of the new leaf, which is put on above v.
+// The same, and where v names the edge, one row more: the new leaf is put on above v.
 fn write_subtree(
     n: usize,
     edge: usize,

@@ -11,7 +11,7 @@ use lib.Dec.{leb}
 use Rattle.base.proofs.Bools.{never, and-both, and-is, eqb-same}
 use Rattle.trees.specs.Trees.{Tree, leaf, node, size, occurrences, IsTree, ordered}
 use Rattle.trees.specs.Listings.{number-in}
-use Rattle.trees.proofs.Trees.{size-node, size-pos, occurrences-node, ordered-tree, ordered-size}
+use Rattle.trees.proofs.Trees.{size-leaf, size-node, size-pos, occurrences-node, ordered-tree, ordered-size}
 use Rattle.trees.proofs.Blocks.{number-node}
 use Rattle.grafted_trees.specs.Grafts.{names-edge}
 use Rattle.grafted_trees.specs.inner.EdgeNumbers.{edges-at}
@@ -26,10 +26,6 @@ edge-range n e h =
 pub range-edge : (n e : ℕ) → 1 ≤ e → e ≤ 2 * n - 3 → names-edge n e ≡ true
 unfolding names-edge
 range-edge n e low high = and-is _ _ (le-leb 1 e low) (le-leb e (2 * n - 3) high)
-
-size-leaf : (i : ℕ) → size (leaf i) ≡ 1
-unfolding size
-size-leaf i = refl
 
 -- a node's own number is e, or it is not
 own-edge :

@@ -15,7 +15,7 @@ use Rattle.base.proofs.Lists.{sets-append}
 use Rattle.limits.specs.Limits.{IsLeafCount, most-numbers}
 use Rattle.refusals.specs.Refusals.{written}
 use Rattle.refusals.proofs.Answers.{written-done}
-use Rattle.trees.specs.Trees.{Tree, leaf, node, size, ordered}
+use Rattle.trees.specs.Trees.{Tree, leaf, node, size}
 use Rattle.trees.specs.Listings.{KeepsRules, tree-of, number-in, post-order, standard}
 use Rattle.trees.proofs.Trees.{size-node, size-pos, ordered-size}
 use Rattle.trees.proofs.Rules.{listing-tree}
@@ -29,8 +29,8 @@ use Rattle.standard_listings.specs.inner.Standardising.{child-number, wi
 use Rattle.standard_listings.specs.inner.Standardising.{RowsWritten, SubtreeRowsWritten}
 use Rattle.standard_listings.proofs.Nodes.{part-leaf, part-node, first-below, second-below}
 
--- Rows written: of a leaf none; of a node those of A, which end before row t, those of B, which end before row r, and its
--- own.
+-- Rows written: a leaf has none; a node has those of A, which end before row t, those of B, which end before row r, and
+-- its own.
 pub leaf-written : (n i s : ℕ) (out : List ℕ) → RowsWritten n (leaf i) s out out s
 leaf-written n i s out = record { next = unfold size in refl; rows = unfold post-order in refl }
 
@@ -149,7 +149,8 @@ module _ {n : ℕ} {l sorted : List ℕ} {v s : ℕ} {out : List ℕ} (g : Subtr
 
     module _ {out₁ : List ℕ} {t : ℕ} (d : SubtreeRowsWritten n l a s out out₁ t) where
       pub second-rows-fit : SubtreeRowsFit n l sorted b t out₁
-      second-rows-fit = child-rows-fit b t out₁ (c .second-low) (omega (arith, sizes, g .below, d .next)) (written-length d)
+      second-rows-fit =
+          child-rows-fit b t out₁ (c .second-low) (omega (arith, sizes, g .below, d .next)) (written-length d)
 
       module _ {out₂ : List ℕ} {r : ℕ} (e : SubtreeRowsWritten n l b t out₁ out₂ r) where
         long-still : length out₂ ≡ length out

@@ -1,6 +1,6 @@
 -- `grafted_rows::write_below` and `write_subtree` meet their contracts: the rows of the two children and the node's own
--- row make up its post-order, a leaf has none, and the new leaf has one more. The measure is twice the number v, since a
--- child's is smaller, and one more for `write_subtree`, which passes v on.
+-- row make up its post-order, a leaf has none, and the new leaf has one more. The measure is twice the number v, since
+-- a child's is smaller, and one more for `write_subtree`, which passes v on.
 use Prim.Native.Nat.{ℕ, _+_, _*_, _<_}
 use native.Mathlib.Omega.{arith}
 use borrow.Author.Needs.{needs}
@@ -8,9 +8,10 @@ use borrow.Fn.Kinds.{In}
 use borrow.Fn.PlainCycle.{Measures, is, falls, and}
 use Rattle.trees.specs.Trees.{Tree}
 use Rattle.grafted_rows.specs.inner.Grafting.{grafted-below, RowsFit}
-use Rattle.grafted_rows.proofs.GraftedSubtrees.{block-below, Split, block-split, leaf-rows-written}
-use Rattle.grafted_rows.proofs.GraftedSubtrees.{first-rows-fit, second-rows-fit, own-row-fits, node-rows-written}
-use Rattle.grafted_rows.proofs.GraftedSubtrees.{below-fits, subtree-written, new-row-fits, grafted-written}
+use Rattle.grafted_rows.proofs.Blocks.{block-below, Split, block-split}
+use Rattle.grafted_rows.proofs.GraftedSubtrees.{leaf-rows-written, first-rows-fit, second-rows-fit, own-row-fits}
+use Rattle.grafted_rows.proofs.GraftedSubtrees.{node-rows-written, below-fits, subtree-written, new-row-fits}
+use Rattle.grafted_rows.proofs.GraftedSubtrees.{grafted-written}
 use Rattle.grafted_rows.proofs.+write_below+write_subtree.{statement}
 use Rattle.grafted_rows.proofs.+write_below+write_subtree.Tie.{close}
 use Rattle.grafted_rows.proofs.write_below.Reads as write-below

@@ -11,7 +11,7 @@ use Rattle.trees.specs.Listings.{number-in, post-order}
 use Rattle.standard_listings.specs.inner.Standardising.{RowsWritten}
 use Rattle.grafted_trees.specs.Grafts.{with-leaf}
 
--- leaf x on an edge below a subtree, and not on the edge above it: `with-leaf` at its two children
+-- leaf x where the edge is below a subtree, and not where it is the one above it: `with-leaf` at the two children
 unfoldable pub grafted-below : ℕ → ℕ → Tree → ℕ → Tree
 grafted-below x e (leaf i) r = leaf i
 grafted-below x e (node A B) r = node (with-leaf x e A r) (with-leaf x e B (r + size A - 1))
@@ -28,7 +28,7 @@ pub record Block (n : ℕ) (rows : List ℕ) (X : Tree) (r v : ℕ) : Type 0 whe
   pub within : (k : ℕ) → leaves X k ≡ true → k < n
   pub number : v ≡ number-in X r
 
--- and where they stand, those of Y, which X becomes, may be written from row s on
+-- and so the rows of Y, which X becomes, may be written from row s on
 pub record RowsFit (n : ℕ) (rows : List ℕ) (X : Tree) (r : ℕ) (Y : Tree) (v s : ℕ) (out : List ℕ) : Type 0 where
   pub count : IsLeafCount n
   pub block : Block n rows X r v
