@@ -89,6 +89,7 @@ with-leaf-none x e (node A B) r h =
     let not-here = no-indicator (eqb e (number-in (node A B) r)) (omega arith) in
     rw (not-here, with-leaf-none x e A r (omega arith), with-leaf-none x e B (r + size A - 1) (omega arith))
 
+-- equal nodes have equal children, and no node is a leaf
 node-first : (A B C D : Tree) → node A B ≡ node C D → A ≡ C
 node-first A B C D h = cc
 
