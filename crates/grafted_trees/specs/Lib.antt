@@ -1,1 +1,2 @@
 pub mod Grafts
+pub mod inner

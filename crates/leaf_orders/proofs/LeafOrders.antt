@@ -1,5 +1,5 @@
 -- Leaves in order: where those of a subtree stand, and what branches off above each.
-use mathlib.Core.Path.{_≡_, refl, sym, _∙_}
+use mathlib.Core.Path.{_≡_, sym, _∙_}
 use mathlib.Core.Logic.{inl, inr}
 use mathlib.Core.Bool.{true}
 use Prim.Native.Nat.{ℕ, _+_, _≤_, _<_}
@@ -8,22 +8,17 @@ use native.Mathlib.Decide.{decLt}
 use Rattle.base.proofs.Bools.{or-left, or-right, or-cases}
 use Rattle.pair_counts.specs.Pairs.{P}
 use Rattle.trees.specs.Trees.{Tree, leaf, node, leaves, size}
-use Rattle.trees.proofs.Trees.{leaves-node, leaf-has, leaf-eq, size-node, apart-sym, Distinct, Within}
+use Rattle.trees.proofs.Trees.{leaves-node, leaf-has, leaf-eq, size-leaf, size-node, apart-sym, Distinct, Within}
 use Rattle.trees.proofs.Trees.{within-left, within-right}
 use Rattle.trees.proofs.BranchedPairs.{inner-sum, inner-sum-leaf, inner-sum-left, inner-sum-right}
 use Rattle.leaf_orders.specs.inner.Orders.{depth, LaidOut}
-
--- the size of a leaf
-pub leaf-size : (k : ℕ) → size (leaf k) ≡ 1
-unfolding size
-leaf-size k = refl
 
 module _ (n : ℕ) (place above before : ℕ → ℕ) where
   -- the leaves of a subtree stand at its places
   pub place-in :
       (Z : Tree) (p u w : ℕ) → LaidOut n place above before Z p u w → (k : ℕ) → leaves Z k ≡ true
       → (p ≤ place k) × (place k < p + size Z)
-  place-in (leaf x) p u w h k t = rw (leaf-eq k x t, leaf-size x) (omega (arith, h .0), omega (arith, h .0))
+  place-in (leaf x) p u w h k t = rw (leaf-eq k x t, size-leaf x) (omega (arith, h .0), omega (arith, h .0))
   place-in (node A B) p u w h k t = rw size-node (elim (or-cases (leaves A k) (leaves B k) (rw leaves-node at t)) [
     | inl a ↦
         let r = place-in A p (u + P (size B)) w (h .0) k a in
@@ -37,7 +32,7 @@ module _ (n : ℕ) (place above before : ℕ → ℕ) where
   pub leaf-at :
       (Z : Tree) (p u w : ℕ) → LaidOut n place above before Z p u w → (t : ℕ) → p ≤ t → t < p + size Z
       → (k : ℕ) × (leaves Z k ≡ true) × (place k ≡ t)
-  leaf-at (leaf x) p u w h t lo hi = (x, leaf-has x, omega (arith, h .0, leaf-size x))
+  leaf-at (leaf x) p u w h t lo hi = (x, leaf-has x, omega (arith, h .0, size-leaf x))
   leaf-at (node A B) p u w h t lo hi = elim (decLt t (p + size A)) [
     | yes l ↦
         let r = leaf-at A p (u + P (size B)) w (h .0) t lo l in

@@ -12,11 +12,11 @@ use Rattle.pair_counts.specs.Pairs.{P}
 use Rattle.pair_counts.proofs.Pairs.{P-zero, P-one}
 use Rattle.trees.specs.Trees.{Tree, leaf, node, size}
 use Rattle.trees.specs.Listings.{KeepsRules, subtree-at, tree-of}
-use Rattle.trees.proofs.Trees.{size-node, OnLeaves, root-within, root-all, tree-size}
+use Rattle.trees.proofs.Trees.{size-leaf, size-node, OnLeaves, root-within, root-all, tree-size}
 use Rattle.trees.proofs.Rules.{on-leaves}
 use Rattle.leaf_orders.specs.inner.Orders.{whole, depth, at, LaidOut, Prepared, NumbersPlaced, OwnPlaces}
 use Rattle.leaf_orders.specs.inner.Orders.{Placed, IsPlan}
-use Rattle.leaf_orders.proofs.LeafOrders.{leaf-size, place-in, place-once, laid-same}
+use Rattle.leaf_orders.proofs.LeafOrders.{place-in, place-once, laid-same}
 use Rattle.leaf_orders.proofs.Placing.{laid-under}
 
 module _ (n : ℕ) (l : List ℕ) (count : IsLeafCount n) (keeps : KeepsRules n l) where
@@ -38,7 +38,7 @@ module _ (n : ℕ) (l : List ℕ) (count : IsLeafCount n) (keeps : KeepsRules n 
   under-others = others
 
   pub whole-size : size W ≡ n
-  whole-size = omega (arith, others, size-node (leaf 0) T, leaf-size 0)
+  whole-size = omega (arith, others, size-node (leaf 0) T, size-leaf 0)
 
   is-under : T ≡ subtree-at n l (2 * n - 3)
   unfolding tree-of
@@ -48,7 +48,7 @@ module _ (n : ℕ) (l : List ℕ) (count : IsLeafCount n) (keeps : KeepsRules n 
   unfolding depth
   top-depth =
       let none : n - (1 + (n - 1)) ≡ 0 = omega arith in
-      rw (leaf-size 0, others, none, P-one, P-zero) (omega arith)
+      rw (size-leaf 0, others, none, P-one, P-zero) (omega arith)
 
   -- all leaves follow one another
   module _ {sizes places aboves befores : List ℕ} (g : Prepared n l sizes)
@@ -57,7 +57,7 @@ module _ (n : ℕ) (l : List ℕ) (count : IsLeafCount n) (keeps : KeepsRules n 
     laid-whole =
         let r = h .root .1 in
         let under-zero = laid-under g h (2 * n - 2) (2 * n - 3) (omega arith) (omega arith) in
-        (rw others (h .root .0), rw (leaf-size 0, P-one, top-depth, is-under) (rw (r .0, r .1, r .2) at under-zero))
+        (rw others (h .root .0), rw (size-leaf 0, P-one, top-depth, is-under) (rw (r .0, r .1, r .2) at under-zero))
 
     -- every leaf has a place of its own
     pub own-places : OwnPlaces n places

@@ -12,11 +12,11 @@ use Rattle.base.proofs.Bools.{or-cases}
 use Rattle.pair_counts.specs.Pairs.{P}
 use Rattle.pair_counts.proofs.Pairs.{P-le, P-mono}
 use Rattle.trees.specs.Trees.{Tree, leaf, node, leaves, size}
-use Rattle.trees.proofs.Trees.{leaves-node, leaf-eq, size-node, apart-sym, Distinct}
+use Rattle.trees.proofs.Trees.{leaves-node, leaf-eq, size-leaf, size-node, apart-sym, Distinct}
 use Rattle.trees.proofs.BranchedPairs.{inner-sum}
 use Rattle.trees.proofs.PathSums.{path-sum, path-sum-left, path-sum-right, path-sum-cross}
 use Rattle.leaf_orders.specs.inner.Orders.{most-sum, whole, depth, LaidOut, at}
-use Rattle.leaf_orders.proofs.LeafOrders.{leaf-size, place-in, above-in}
+use Rattle.leaf_orders.proofs.LeafOrders.{place-in, above-in}
 use Rattle.least_depths.specs.inner.Depths.{LeastBetween}
 
 -- no node over s leaves is less deep than this
@@ -72,7 +72,7 @@ module _ (n : ℕ) (small : P n ≤ most-sum) (place above : ℕ → ℕ) (depth
 
   inside : (Z : Tree) (p u w : ℕ) → Ordered Z p u w → size Z ≤ n → Inside Z p u
   unfolding Inside
-  inside (leaf x) p u w h l t lo hi = absurd (omega (arith, leaf-size x))
+  inside (leaf x) p u w h l t lo hi = absurd (omega (arith, size-leaf x))
   inside (node A B) p u w h l t lo hi =
       let sum = size-node A B in
       let ia = inside A p (u + P (size B)) w (h .0) (omega (arith, sum)) in

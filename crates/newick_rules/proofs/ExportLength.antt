@@ -10,10 +10,11 @@ use lib.ListN.{length, getD, length-append}
 use Rattle.base.specs.Numbers.{sum-below}
 use Rattle.base.proofs.Sums.{sum-ext, sum-add, sum-only}
 use Rattle.trees.specs.Trees.{Tree, leaf, node, size, occurrences, IsTree, ordered}
-use Rattle.trees.proofs.Trees.{leaf-has, Within, within-left, within-right, tree-on, root-within, tree-size}
+use Rattle.trees.proofs.Trees.{leaf-has, Within, within-left, within-right, tree-on, ordered-tree, root-within}
+use Rattle.trees.proofs.Trees.{tree-size}
 use Rattle.newick_rules.specs.Reader.{semicolon}
 use Rattle.newick_rules.specs.Exporting.{plain, drawing, top-parts, drawing-of-tree, exported}
-use Rattle.newick_rules.proofs.Exports.{ordered-tree, stands-once}
+use Rattle.newick_rules.proofs.Exports.{stands-once}
 
 -- The names, and the bytes of one.
 module _ (names : List (List ℕ)) where

@@ -18,8 +18,7 @@ use Rattle.trees.specs.Trees.{Tree, leaf, node, leaves, size, occurrences, IsTr
 use Rattle.trees.specs.Rerooting.{reroot-along, rerooted}
 use Rattle.trees.specs.Listings.{standard}
 use Rattle.trees.proofs.Trees.{Distinct, Within, within-left, within-right, leaf-has, size-pos, join-comm}
-use Rattle.trees.proofs.Trees.{ordered-apart, ordered-is, tree-on, on-tree, ordered-drawn, drawn-on, root-within}
-use Rattle.trees.proofs.Trees.{tree-size}
+use Rattle.trees.proofs.Trees.{ordered-apart, ordered-is, tree-on, ordered-drawn, ordered-tree, root-within, tree-size}
 use Rattle.trees.proofs.Rerooting.{tree-held}
 use Rattle.sheet_rules.specs.Sheets.{same}
 use Rattle.newick_rules.specs.Drawings.{Drawing, nesting, names-in}
@@ -34,10 +33,7 @@ use Rattle.newick_rules.proofs.Plain.{is-word, plain-right}
 use Rattle.newick_rules.proofs.Strains.{known-here, named-here, word-here}
 use Rattle.newick_rules.proofs.DrawnTrees.{leaf-times}
 
--- a tree in standard order is a tree, and with leaf 0 put on it has each leaf once
-pub ordered-tree : (n : ℕ) (T : Tree) → IsTree n T → IsTree n (ordered T)
-ordered-tree n T h = on-tree n (ordered T) (drawn-on n (ordered T) (ordered-drawn n T (tree-on n T h)))
-
+-- a tree with leaf 0 put on has each leaf once
 pub stands-once :
     (n : ℕ) (T : Tree) → IsTree n T → 0 < n → (k : ℕ) → k < n → occurrences k (node (leaf 0) T) ≡ 1
 stands-once n T h z k q = tree-held n T z h k ∙ rw (lt-ltb k n q)

@@ -15,10 +15,10 @@ use Rattle.base.proofs.Lists.{sets-append}
 use Rattle.limits.specs.Limits.{IsLeafCount, most-numbers}
 use Rattle.refusals.specs.Refusals.{written}
 use Rattle.refusals.proofs.Answers.{written-done}
-use Rattle.trees.specs.Trees.{Tree, leaf, node, size, ordered}
+use Rattle.trees.specs.Trees.{Tree, leaf, node, size}
 use Rattle.trees.specs.Listings.{KeepsRules, tree-of, number-in, post-order, standard}
-use Rattle.trees.proofs.Trees.{size-node, size-pos, OnLeaves, drawn-on, ordered-drawn, tree-size}
-use Rattle.trees.proofs.Rules.{on-leaves, listing-tree}
+use Rattle.trees.proofs.Trees.{size-node, size-pos, ordered-size}
+use Rattle.trees.proofs.Rules.{listing-tree}
 use Rattle.trees.proofs.Blocks.{post-order-length, number-node}
 use Rattle.trees.proofs.Listings.{tree-listing}
 use Rattle.listings.specs.Operations.{listing-refusal}
@@ -26,32 +26,65 @@ use Rattle.listings.proofs.ListingRefusal.{accepted-listing, rules-left}
 use Rattle.standard_listings.specs.Operations.{standardise-answer}
 use Rattle.standard_listings.specs.inner.Standardising.{part, standard-first, standard-second, InOrder, AtNode}
 use Rattle.standard_listings.specs.inner.Standardising.{child-number, with-row, RowFits, SubtreeRowsFit}
-use Rattle.standard_listings.specs.inner.Standardising.{SubtreeRowsWritten}
+use Rattle.standard_listings.specs.inner.Standardising.{RowsWritten, SubtreeRowsWritten}
 use Rattle.standard_listings.proofs.Nodes.{part-leaf, part-node, first-below, second-below}
 
--- a node's rows, written: those of A, which end before row t, those of B, which end before row r, and its own
-write-node :
-    (A B : Tree) (n s t r : ℕ) (out : List ℕ) → t + 1 ≡ s + size A → r + 1 ≡ t + size B
-    → sets out (2 * s) (post-order (node A B) (n + s))
-    ≡ (let first = sets out (2 * s) (post-order A (n + s)) in
-    let second = sets first (2 * t) (post-order B (n + t)) in
-    set (set second (2 * r) (number-in A (n + s))) (2 * r + 1) (number-in B (n + t)))
-unfolding post-order
-write-node A B n s t r out ea eb =
-    let b : n + s + size A - 1 ≡ n + t = omega arith in
-    let rows-a = post-order A (n + s) in
-    let rows-b = post-order B (n + t) in
-    let own = number-in A (n + s) ∷ number-in B (n + t) ∷ [] in
-    let after-a : 2 * s + length rows-a ≡ 2 * t = omega (arith, post-order-length A (n + s), size-pos A) in
-    let after-b : 2 * t + length rows-b ≡ 2 * r = omega (arith, post-order-length B (n + t), size-pos B) in
-    rw (
-      b,
-      sets-append rows-a (rows-b ++ own) out (2 * s),
-      after-a,
-      sets-append rows-b own (sets out (2 * s) rows-a) (2 * t),
-      after-b,
-      add-one (2 * r),
-    )
+-- Rows written: a leaf has none; a node has those of A, which end before row t, those of B, which end before row r, and
+-- its own.
+pub leaf-written : (n i s : ℕ) (out : List ℕ) → RowsWritten n (leaf i) s out out s
+leaf-written n i s out = record { next = unfold size in refl; rows = unfold post-order in refl }
+
+module _ {n : ℕ} {A : Tree} {s t : ℕ} {out out₁ : List ℕ} (a : RowsWritten n A s out out₁ t) where
+  pub written-length : length out₁ ≡ length out
+  written-length = rw (a .rows) (length-sets out (2 * s) (post-order A (n + s)))
+
+  pub node-written :
+      {B : Tree} {r : ℕ} {out₂ : List ℕ} → RowsWritten n B t out₁ out₂ r
+      → RowsWritten n (node A B) s out (set (set out₂ (2 * r) (number-in A (n + s))) (2 * r + 1) (number-in B (n + t)))
+      (r + 1)
+  unfolding post-order
+  node-written {B} {r} b = record {
+    next = omega (arith, a .next, b .next, size-node A B);
+    rows =
+        rw (
+          b .rows,
+          a .rows,
+          second,
+          sets-append rows-a (rows-b ++ own) out (2 * s),
+          after-a,
+          sets-append rows-b own (sets out (2 * s) rows-a) (2 * t),
+          after-b,
+          add-one (2 * r),
+        );
+  }
+    where
+      rows-a : List ℕ
+      rows-a = post-order A (n + s)
+
+      rows-b : List ℕ
+      rows-b = post-order B (n + t)
+
+      own : List ℕ
+      own = number-in A (n + s) ∷ number-in B (n + t) ∷ []
+
+      second : n + s + size A - 1 ≡ n + t
+      second = omega (arith, a .next)
+
+      after-a : 2 * s + length rows-a ≡ 2 * t
+      after-a = omega (arith, post-order-length A (n + s), size-pos A, a .next)
+
+      after-b : 2 * t + length rows-b ≡ 2 * r
+      after-b = omega (arith, post-order-length B (n + t), size-pos B, b .next)
+
+-- rows written from row 0 on stand at the front, and what stood behind them is left
+pub written-front :
+    {n r : ℕ} {Y : Tree} {out out′ : List ℕ} → RowsWritten n Y 0 out out′ r → 2 * (size Y - 1) ≤ length out
+    → out′ ≡ post-order Y n ++ drop (2 * (size Y - 1)) out
+written-front {n} {Y = Y} {out} w room =
+    let rows = post-order Y n in
+    let many = post-order-length Y n in
+    let end = zero-add (2 * (size Y - 1)) in
+    w .rows ∙ rw (add-zero n) (sets-eq rows out 0 (omega (arith, many)) ∙ rw (many, end))
 
 -- the children of a node, as the code has them
 pub record Split (n : ℕ) (l : List ℕ) (v a b : ℕ) : Type 0 where
@@ -78,10 +111,7 @@ module _ {n : ℕ} {l sorted : List ℕ} {v s : ℕ} {out : List ℕ} (g : Subtr
       (eb ∙ g .order .seconds v low (g .inside))
 
   pub leaf-rows-written : v < n → SubtreeRowsWritten n l v s out out s
-  leaf-rows-written h = is-leaf (part-leaf n l v h)
-    where
-      is-leaf : part n l v ≡ leaf v → SubtreeRowsWritten n l v s out out s
-      is-leaf e = record { next = rw e (unfold size in refl); rows = rw e (unfold post-order in refl) }
+  leaf-rows-written h = rw (part-leaf n l v h) (leaf-written n v s out)
 
   -- a row names its child x by the number that x has in post-order
   named :
@@ -118,15 +148,13 @@ module _ {n : ℕ} {l sorted : List ℕ} {v s : ℕ} {out : List ℕ} (g : Subtr
     first-rows-fit = child-rows-fit a s out (c .first-low) (omega (arith, sizes, g .below)) refl
 
     module _ {out₁ : List ℕ} {t : ℕ} (d : SubtreeRowsWritten n l a s out out₁ t) where
-      long : length out₁ ≡ length out
-      long = rw (d .rows) (length-sets out (2 * s) (post-order (part n l a) (n + s)))
-
       pub second-rows-fit : SubtreeRowsFit n l sorted b t out₁
-      second-rows-fit = child-rows-fit b t out₁ (c .second-low) (omega (arith, sizes, g .below, d .next)) long
+      second-rows-fit =
+          child-rows-fit b t out₁ (c .second-low) (omega (arith, sizes, g .below, d .next)) (written-length d)
 
       module _ {out₂ : List ℕ} {r : ℕ} (e : SubtreeRowsWritten n l b t out₁ out₂ r) where
         long-still : length out₂ ≡ length out
-        long-still = rw (e .rows) (length-sets out₁ (2 * t) (post-order (part n l b) (n + t))) ∙ long
+        long-still = written-length e ∙ written-length d
 
         pub row-fits : RowFits n t r out₂
         row-fits = record {
@@ -137,25 +165,18 @@ module _ {n : ℕ} {l sorted : List ℕ} {v s : ℕ} {out : List ℕ} (g : Subtr
         }
 
         pub node-rows-written : SubtreeRowsWritten n l v s out (with-row n a t b r out₂) (r + 1)
-        node-rows-written = record {
-          next = omega (arith, e .next, d .next, sizes);
-          rows =
-              rw (
-                c .joins,
-                named a s t (omega (arith, c .first-low, g .inside)) (d .next),
-                named b t r (omega (arith, c .second-low, g .inside)) (e .next),
-                e .rows,
-                d .rows,
-              ) (sym (write-node (part n l a) (part n l b) n s t r out (d .next) (e .next)));
-        }
+        node-rows-written =
+            rw (
+              c .joins,
+              named a s t (omega (arith, c .first-low, g .inside)) (d .next),
+              named b t r (omega (arith, c .second-low, g .inside)) (e .next),
+            )
+            (node-written d e)
 
 -- The whole listing: from row 0 on, under the last node.
 module _ (n : ℕ) (l : List ℕ) (count : IsLeafCount n) (keeps : KeepsRules n l) where
   whole-size : size (part n l (2 * n - 3)) + 1 ≡ n
-  whole-size = unfold tree-of in tree-size n (ordered (tree-of n l)) drawn (omega (arith, count))
-    where
-      drawn : OnLeaves n (ordered (tree-of n l))
-      drawn = drawn-on n _ (ordered-drawn n (tree-of n l) (on-leaves n l (count .0) keeps))
+  whole-size = unfold tree-of in ordered-size n (tree-of n l) (omega (arith, count)) (listing-tree n count l keeps)
 
   pub whole-rows-fit :
       (sorted out : List ℕ) → InOrder n l (2 * n - 2) sorted → 2 * (n - 2) ≤ length out
@@ -178,9 +199,8 @@ module _ (n : ℕ) (l : List ℕ) (count : IsLeafCount n) (keeps : KeepsRules n 
       → out′ ≡ standard n (tree-of n l) ++ drop (2 * (n - 2)) out
   unfolding standard tree-of
   whole-rows-written out out′ r room w =
-      let rows = standard n (tree-of n l) in
-      let end = zero-add (2 * (n - 2)) in
-      w .rows ∙ rw (add-zero n) (sets-eq rows out 0 (omega (arith, standard-length)) ∙ rw (standard-length, end))
+      let rows : size (part n l (2 * n - 3)) - 1 ≡ n - 2 = omega (arith, whole-size) in
+      rw rows at (written-front w (rw rows room))
 
 -- the buffer that standardising leaves, where nothing is refused: the listing, and what stood behind it
 pub standard-end :

@@ -83,7 +83,11 @@ pub record SubtreeFits (n : ℕ) (sorted : List ℕ) (v s : ℕ) (out : List ℕ
   pub listing : List ℕ
   pub fits : SubtreeRowsFit n listing sorted v s out
 
--- the rows of the subtree under v have been written from row s on, in post-order, and r is the next row
-pub record SubtreeRowsWritten (n : ℕ) (l : List ℕ) (v s : ℕ) (out out′ : List ℕ) (r : ℕ) : Type 0 where
-  pub next : r + 1 ≡ s + size (part n l v)
-  pub rows : out′ ≡ sets out (2 * s) (post-order (part n l v) (n + s))
+-- the rows of the subtree Y have been written from row s on, in post-order, and r is the next row
+pub record RowsWritten (n : ℕ) (Y : Tree) (s : ℕ) (out out′ : List ℕ) (r : ℕ) : Type 0 where
+  pub next : r + 1 ≡ s + size Y
+  pub rows : out′ ≡ sets out (2 * s) (post-order Y (n + s))
+
+-- those of the subtree under v, in standard order
+abbrev pub SubtreeRowsWritten : ℕ → List ℕ → ℕ → ℕ → List ℕ → List ℕ → ℕ → Type 0
+SubtreeRowsWritten n l v s out out′ r = RowsWritten n (part n l v) s out out′ r

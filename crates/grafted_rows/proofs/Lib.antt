@@ -1,0 +1,2 @@
+mod Blocks
+mod GraftedSubtrees

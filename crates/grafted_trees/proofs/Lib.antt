@@ -1,0 +1,3 @@
+pub mod EdgeNumbers
+pub mod Grafts
+mod Cases
