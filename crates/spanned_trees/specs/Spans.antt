@@ -1,7 +1,8 @@
 -- The tree that some of the leaves span, and pruning (02, request 5), after which all leaves but one span the tree.
 -- T is a tree as it hangs from leaf 0; which leaves stay is a leaf set v.
-use mathlib.Core.Bool.{Bool, not, cond, _||_}
-use Prim.Native.Nat.{ℕ, _-_}
+use mathlib.Core.Path.{_≡_}
+use mathlib.Core.Bool.{Bool, true, not, cond, _||_}
+use Prim.Native.Nat.{ℕ, _-_, _<_}
 use lib.Dec.{ltb, eqb}
 use Rattle.base.specs.Numbers.{count-below}
 use Rattle.trees.specs.Trees.{Tree, leaf, node, LeafSet}
@@ -17,6 +18,10 @@ meets v (node A B) = meets v A || meets v B
 unfoldable pub kept : LeafSet → Tree → Tree
 kept v (leaf i) = leaf i
 kept v (node A B) = cond (meets v A) (cond (meets v B) (node (kept v A) (kept v B)) (kept v A)) (kept v B)
+
+-- k is one of n leaves, and stays
+abbrev pub Stays : ℕ → LeafSet → ℕ → Type 0
+Stays n v k = (k < n) × (v k ≡ true)
 
 -- leaves are renumbered in order: the new number of leaf k is the number of leaves before it that stay
 unfoldable pub rank : LeafSet → ℕ → ℕ

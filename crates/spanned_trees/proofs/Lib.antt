@@ -1,0 +1,5 @@
+pub mod Ranks
+pub mod Kept
+pub mod Spans
+pub mod Prunes
+pub mod Cases
