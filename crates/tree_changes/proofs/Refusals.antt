@@ -31,8 +31,8 @@ use Rattle.listings.specs.Operations.{listing-refusal}
 use Rattle.listings.proofs.ListingRefusal.{rules-left}
 use Rattle.table_checks.specs.Operations.{table-refusal}
 use Rattle.table_checks.proofs.TableRefusal.{cells-left}
-use Rattle.tree_changes.specs.declared.Change.{Change}
-use Rattle.tree_changes.specs.Operations.{count-after, is-there, change-refusal}
+use Rattle.change_answers.specs.declared.Change.{Change}
+use Rattle.change_answers.specs.Operations.{count-after, is-there, change-refusal}
 use Rattle.tree_changes.specs.inner.Sizes.{change-sizes-refusal}
 
 -- The sizes.

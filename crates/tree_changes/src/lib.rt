@@ -1,4 +1,5 @@
 // The operations that change a tree and keep its table beside it: graft and prune.
+use change_answers::Change;
 use limits::Kind;
 use refusals::Outcome;
 use refusals::Refusal;
@@ -17,18 +18,10 @@ ghost use Rattle.tree_records.specs.Records.{tree-outcome};
 ghost use Rattle.trees.specs.Listings.{KeepsRules, tree-of, standard};
 ghost use Rattle.trees.specs.Tables.{table-of, is-own-table, IsTable};
 ghost use Rattle.grafted_trees.specs.Grafts.{names-edge};
-ghost use Rattle.tree_changes.specs.declared.Change.the-variants.{Graft, Prune};
-ghost use Rattle.tree_changes.specs.Operations.{count-after, is-there, changed, change-refusal};
-ghost use Rattle.tree_changes.specs.Operations.{change-answer, change-record, change-table};
+ghost use Rattle.change_answers.specs.declared.Change.the-variants.{Graft, Prune};
+ghost use Rattle.change_answers.specs.Operations.{count-after, is-there, changed, change-refusal};
+ghost use Rattle.change_answers.specs.Operations.{change-answer, change-record, change-table};
 ghost use Rattle.tree_changes.specs.inner.Sizes.{change-sizes-refusal};
-
-// A change of a tree on n leaves.
-pub enum Change {
-    // leaf n is put on this edge, named by the node below it in the standard listing
-    Graft(usize),
-    // this leaf is removed, and higher leaves move down by one
-    Prune(usize),
-}
 
 // How many leaves the tree has afterwards.
 fn count_after(n: usize, change: Change) -> usize
@@ -144,7 +137,16 @@ fn write_rows(change: Change, n: usize, listing: &[u16], out: &mut [u16])
     ensures { λ _. ⌜ now (out .exit)
         ≡ standard (count-after n change) (changed n (tree-of n (now (listing .entry))) change)
         ++ drop (2 * (count-after n change - 2)) (now (out .entry)) ⌝ }
-{}
+{
+    match change {
+        Change::Graft(edge) => {
+            grafted_rows::graft_rows(n, edge, listing, out);
+        }
+        Change::Prune(leaf) => {
+            spanned_rows::prune_rows(n, leaf, listing, out);
+        }
+    }
+}
 
 // Writes the table of the tree whose listing stands at the front of some numbers.
 fn write_table(n: usize, numbers: &[u16], out: &mut [u32])
@@ -198,10 +200,7 @@ pub fn graft(
     ensures table { λ _. ⌜ now (cells .exit) ≡ written (change-table n (now (listing .entry)) (now (table .entry))
         (Graft edge) (length (now (out .entry))) (length (now (cells .entry)))) (now (cells .entry)) ⌝ }
 {
-    mark(
-        Origin::Grafted,
-        apply(Change::Graft(edge), n, listing, table, out, cells),
-    )
+    mark(Origin::Grafted, apply(Change::Graft(edge), n, listing, table, out, cells))
 }
 
 // Prunes a leaf: writes the standard listing of the pruned tree and its table, and marks it grafted.
@@ -220,8 +219,5 @@ pub fn prune(
     ensures table { λ _. ⌜ now (cells .exit) ≡ written (change-table n (now (listing .entry)) (now (table .entry))
         (Prune leaf) (length (now (out .entry))) (length (now (cells .entry)))) (now (cells .entry)) ⌝ }
 {
-    mark(
-        Origin::Grafted,
-        apply(Change::Prune(leaf), n, listing, table, out, cells),
-    )
+    mark(Origin::Grafted, apply(Change::Prune(leaf), n, listing, table, out, cells))
 }

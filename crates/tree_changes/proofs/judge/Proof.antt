@@ -16,7 +16,7 @@ use Rattle.trees.specs.Listings.{tree-of}
 use Rattle.trees.specs.Tables.{is-own-table}
 use Rattle.listings.specs.Operations.{listing-refusal}
 use Rattle.table_checks.specs.Operations.{table-refusal}
-use Rattle.tree_changes.specs.Operations.{count-after}
+use Rattle.change_answers.specs.Operations.{count-after}
 use Rattle.tree_changes.specs.inner.Sizes.{change-sizes-refusal}
 use Rattle.tree_changes.proofs.Refusals.{first-count-told, sizes-stop, rules-stop, cells-stop, own-decides}
 use Rattle.tree_changes.proofs.Refusals.{keeps, is-table}

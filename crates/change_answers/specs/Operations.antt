@@ -17,8 +17,8 @@ use Rattle.trees.specs.Listings.{rules-refusal, tree-of, standard}
 use Rattle.trees.specs.Tables.{table-of, is-own-table, cells-refusal}
 use Rattle.spanned_trees.specs.Spans.{pruned}
 use Rattle.grafted_trees.specs.Grafts.{names-edge, grafted}
-use Rattle.tree_changes.specs.declared.Change.{Change}
-use Rattle.tree_changes.specs.declared.Change.the-variants.{Graft, Prune}
+use Rattle.change_answers.specs.declared.Change.{Change}
+use Rattle.change_answers.specs.declared.Change.the-variants.{Graft, Prune}
 
 -- how many leaves a tree on n leaves has afterwards
 abbrev pub count-after : ℕ → Change → ℕ
