@@ -94,7 +94,7 @@ judge-own-requires c κs =
       first s,
       keeps (a .n) (a .listing .now) (a .table .now) (a .change) (a .room) (a .space) (first s) (fine s) (ruled listed),
       is-table (a .n) (a .listing .now) (a .table .now) (a .change) (a .room) (a .space) (first s) (fine s)
-      (ruled listed) tabled,
+          (ruled listed) tabled,
     )
 
 returns-5 : tie.Need-returns-5
