@@ -137,7 +137,16 @@ fn write_rows(change: Change, n: usize, listing: &[u16], out: &mut [u16])
     ensures { λ _. ⌜ now (out .exit)
         ≡ standard (count-after n change) (changed n (tree-of n (now (listing .entry))) change)
         ++ drop (2 * (count-after n change - 2)) (now (out .entry)) ⌝ }
-{}
+{
+    match change {
+        Change::Graft(edge) => {
+            grafted_rows::graft_rows(n, edge, listing, out);
+        }
+        Change::Prune(leaf) => {
+            spanned_rows::prune_rows(n, leaf, listing, out);
+        }
+    }
+}
 
 // Writes the table of the tree whose listing stands at the front of some numbers.
 fn write_table(n: usize, numbers: &[u16], out: &mut [u32])
@@ -191,10 +200,7 @@ pub fn graft(
     ensures table { λ _. ⌜ now (cells .exit) ≡ written (change-table n (now (listing .entry)) (now (table .entry))
         (Graft edge) (length (now (out .entry))) (length (now (cells .entry)))) (now (cells .entry)) ⌝ }
 {
-    mark(
-        Origin::Grafted,
-        apply(Change::Graft(edge), n, listing, table, out, cells),
-    )
+    mark(Origin::Grafted, apply(Change::Graft(edge), n, listing, table, out, cells))
 }
 
 // Prunes a leaf: writes the standard listing of the pruned tree and its table, and marks it grafted.
@@ -213,8 +219,5 @@ pub fn prune(
     ensures table { λ _. ⌜ now (cells .exit) ≡ written (change-table n (now (listing .entry)) (now (table .entry))
         (Prune leaf) (length (now (out .entry))) (length (now (cells .entry)))) (now (cells .entry)) ⌝ }
 {
-    mark(
-        Origin::Grafted,
-        apply(Change::Prune(leaf), n, listing, table, out, cells),
-    )
+    mark(Origin::Grafted, apply(Change::Prune(leaf), n, listing, table, out, cells))
 }

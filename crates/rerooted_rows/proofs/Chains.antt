@@ -7,29 +7,29 @@ use native.Mathlib.Omega.{arith}
 use lib.ListN.{length, getD, set, take, length-set}
 use Rattle.limits.specs.Limits.{most-numbers}
 use Rattle.trees.proofs.AddedRows.{row-stored}
-use Rattle.newick_reading.specs.inner.Joining.{chain-rows}
-use Rattle.newick_text.specs.inner.Chains.{backwards, with-chain, ChainFits}
+use Rattle.rerooted_rows.specs.inner.Joining.{chain-rows}
+use Rattle.rerooted_rows.specs.inner.Arrays.{backwards, with-chain, ChainFits}
 
 -- after r rows, with the first k numbers of the chain left
-pub record Hung (n m chained : ℕ) (chain rows₀ rows : List ℕ) (r k above : ℕ) : Type 0 where
+pub record ChainWritten (n m chained : ℕ) (chain rows₀ rows : List ℕ) (r k above : ℕ) : Type 0 where
   pub fits : ChainFits n m chained chain rows₀
   pub long : length rows ≡ most-numbers
   pub left : r + k ≡ m + (chained - 1)
   pub so-far : take (2 * r) rows ++ chain-rows (n + r) above (backwards k chain) ≡ with-chain n m chained chain rows₀
 
 module _ {n m chained : ℕ} {chain rows₀ : List ℕ} where
-  pub hung-start :
+  pub chain-start :
       ChainFits n m chained chain rows₀
-      → Hung n m chained chain rows₀ rows₀ m (chained - 1) (getD chain (chained - 1) 0)
+      → ChainWritten n m chained chain rows₀ rows₀ m (chained - 1) (getD chain (chained - 1) 0)
   unfolding with-chain
-  hung-start F = record { fits = F; long = F .rows-long; left = refl; so-far = refl }
+  chain-start F = record { fits = F; long = F .rows-long; left = refl; so-far = refl }
 
-  pub hung-more :
-      {rows : List ℕ} {r k above : ℕ} → 0 < k → Hung n m chained chain rows₀ rows r k above
-      → Hung n m chained chain rows₀ (set (set rows (2 * r) above) (2 * r + 1) (getD chain (k - 1) 0)) (r + 1) (k - 1)
+  pub chain-more :
+      {rows : List ℕ} {r k above : ℕ} → 0 < k → ChainWritten n m chained chain rows₀ rows r k above
+      → ChainWritten n m chained chain rows₀ (set (set rows (2 * r) above) (2 * r + 1) (getD chain (k - 1) 0)) (r + 1) (k - 1)
       (n + r)
   unfolding backwards chain-rows
-  hung-more {rows} {r} {k} {above} h H = record {
+  chain-more {rows} {r} {k} {above} h H = record {
     fits = H .fits;
     long = length-set (set rows (2 * r) above) (2 * r + 1) c ∙ length-set rows (2 * r) above ∙ H .long;
     left = omega (arith, H .left);
@@ -50,11 +50,11 @@ module _ {n m chained : ℕ} {chain rows₀ : List ℕ} where
       room : 2 * r + 1 < length rows
       room = omega (arith, H .left, H .long, H .fits .room)
 
-  pub hung-end :
-      {rows : List ℕ} {r k above : ℕ} → k ≤ 0 → Hung n m chained chain rows₀ rows r k above
+  pub chain-end :
+      {rows : List ℕ} {r k above : ℕ} → k ≤ 0 → ChainWritten n m chained chain rows₀ rows r k above
       → take (2 * (m + (chained - 1))) rows ≡ with-chain n m chained chain rows₀
   unfolding backwards chain-rows
-  hung-end {rows} {r} {k} {above} h H =
+  chain-end {rows} {r} {k} {above} h H =
       let e : k ≡ 0 = omega arith in
       let all : r ≡ m + (chained - 1) = omega (arith, H .left) in
       rw (← all) (sym (append-nil (take (2 * r) rows)) ∙ rw e at (H .so-far))

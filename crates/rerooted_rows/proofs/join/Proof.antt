@@ -1,10 +1,10 @@
--- `newick_parts::join` meets its contract: one lemma for each way out. That a row has room is required where neither
+-- `rerooted_rows::join` meets its contract: one lemma for each way out. That a row has room is required where neither
 -- subtree has leaf 0.
 use native.Mathlib.Omega.{arith}
 use borrow.Author.Needs.{needs}
-use Rattle.newick_parts.proofs.Keeping.{join-first, join-second, join-row}
-use Rattle.newick_parts.proofs.join.Statement.{statement}
-use Rattle.newick_parts.proofs.join.Tie as tie
+use Rattle.rerooted_rows.proofs.Arrays.{join-first, join-second, join-row}
+use Rattle.rerooted_rows.proofs.join.Statement.{statement}
+use Rattle.rerooted_rows.proofs.join.Tie as tie
 
 element-write-rows : tie.Need-element-write-rows
 element-write-rows c =
