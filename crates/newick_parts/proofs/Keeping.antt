@@ -77,9 +77,12 @@ module _ {known : List (List ℕ)} {n : ℕ} {o : Open} {s : List Open} {d : Dra
   split : (a : ℕ) × (l : List ℕ) × (B .of-opens ≡ a ∷ l) × (length l ≡ length s)
   split =
       head-and-tail (B .of-opens) (length s)
-      (opens-length known (subtree-at n (rows-made K rows)) (chain-kept K chain) (o ∷ s) (B .of-opens) (B .keeps .opens))
+      (opens-length known (subtree-at n (rows-made K rows)) (chain-kept K chain) (o ∷ s) (B .of-opens)
+      (B .keeps .opens))
 
-  keeps-split : Keeps known n (o ∷ s) (some d) (split .0 ∷ split .1) (K .last) (K .rows) (rows-made K rows) (chain-kept K chain) seen
+  keeps-split :
+      Keeps known n (o ∷ s) (some d) (split .0 ∷ split .1) (K .last) (K .rows) (rows-made K rows) (chain-kept K chain)
+      seen
   keeps-split = rw (split .2) at (B .keeps)
 
   held-split : Piled numbers (split .0 ∷ split .1)
@@ -385,7 +388,8 @@ module _ {known : List (List ℕ)} {n : ℕ} {o : Open} {s : List Open} {d : Dra
               of-opens = r .1;
               keeps =
                   rw here
-                  (keeps-close known n z s (r .1) (K′ .last) (K′ .rows) (rows-made K′ rows′) (chain-kept K′ chain′) seen q (r .0) k);
+                  (keeps-close known n z s (r .1) (K′ .last) (K′ .rows) (rows-made K′ rows′) (chain-kept K′ chain′)
+                  seen q (r .0) k);
               opens-held = p .1;
             }
 
@@ -417,7 +421,9 @@ opened {known} {n} {s} {K} {parts} {numbers} {rows} {chain} {seen} z depth low d
         let a = getD numbers (length (B .of-opens)) 0 in
         record {
           of-opens = a ∷ B .of-opens;
-          keeps = keeps-open known n z s (B .of-opens) (K .last) (K .rows) (rows-made K rows) (chain-kept K chain) seen a (B .keeps);
+          keeps =
+              keeps-open known n z s (B .of-opens) (K .last) (K .rows) (rows-made K rows) (chain-kept K chain) seen a
+              (B .keeps);
           opens-held = (refl, B .opens-held);
         }
 

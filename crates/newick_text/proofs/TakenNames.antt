@@ -141,7 +141,8 @@ module _ {known : List (List ℕ)} {n : ℕ} {s : List Open} {K : Kept} {parts n
       of-opens = B .of-opens;
       opens-held = B .opens-held;
       keeps =
-          keeps-name known n z s (B .of-opens) (K .last) (K .rows) (rows-made K rows) (chain-kept K chain) (flags seen) x
+          keeps-name known n z s (B .of-opens) (K .last) (K .rows) (rows-made K rows) (chain-kept K chain) (flags seen)
+          x
           (flags (set seen (leaf-named known x) true)) low new sees (B .keeps);
     }
 

@@ -206,7 +206,8 @@ module _ (n m chained : ℕ) (rows chain : List ℕ) (seen : ℕ → Bool) (coun
       (W : Accounted n m (take (2 * m) rows) (backwards chained chain) (0 ∷ []) seen) (A B : Tree)
       (st : Stands (subtree-at n (take (2 * m) rows)) (backwards chained chain) 0 (node A B)) where
     some-chained : 0 < chained
-    some-chained = go chained (chain-split n (count .0) seen all m (take (2 * m) rows) (backwards chained chain) W A B st)
+    some-chained =
+        go chained (chain-split n (count .0) seen all m (take (2 * m) rows) (backwards chained chain) W A B st)
       where
         go : (k : ℕ) → (c : ℕ) × (older : List ℕ) × (backwards k chain ≡ c ∷ older) → 0 < k
         go zero s = absurd (unfold backwards in omega (arith, ap length (s .2)))
@@ -229,8 +230,8 @@ module _ (n m chained : ℕ) (rows chain : List ℕ) (seen : ℕ → Bool) (coun
         × (tree-of n (with-chain n m chained chain rows) ≡ rerooted (node A B))
     unfolding with-chain
     chain-listing =
-        rerooted-listing n (count .0) seen all m (take (2 * m) rows) (backwards chained chain) W A B st (getD chain (chained - 1) 0)
-        (backwards (chained - 1) chain) (latest chained some-chained)
+        rerooted-listing n (count .0) seen all m (take (2 * m) rows) (backwards chained chain) W A B st
+        (getD chain (chained - 1) 0) (backwards (chained - 1) chain) (latest chained some-chained)
       where
         latest : (k : ℕ) → 0 < k → backwards k chain ≡ getD chain (k - 1) 0 ∷ backwards (k - 1) chain
         latest zero h = absurd (omega arith)

@@ -26,8 +26,8 @@ module _ {n m chained : ℕ} {chain rows₀ : List ℕ} where
 
   pub chain-more :
       {rows : List ℕ} {r k above : ℕ} → 0 < k → ChainWritten n m chained chain rows₀ rows r k above
-      → ChainWritten n m chained chain rows₀ (set (set rows (2 * r) above) (2 * r + 1) (getD chain (k - 1) 0)) (r + 1) (k - 1)
-      (n + r)
+      → ChainWritten n m chained chain rows₀ (set (set rows (2 * r) above) (2 * r + 1) (getD chain (k - 1) 0)) (r + 1)
+      (k - 1) (n + r)
   unfolding backwards chain-rows
   chain-more {rows} {r} {k} {above} h H = record {
     fits = H .fits;

@@ -1,5 +1,5 @@
-// The rows of a tree rerooted at leaf 0, written while its subtrees are joined: what lies beside leaf 0's way to the top
-// waits in a chain, of which the last rows are made.
+// The rows of a tree rerooted at leaf 0, written while its subtrees are joined: what lies beside leaf 0's way to the
+// top waits in a chain, of which the last rows are made.
 use limits::MOST_LEAVES;
 use limits::MOST_NUMBERS;
 ghost use mathlib.Core.Path.{_≡_};

@@ -3,7 +3,7 @@
 use mathlib.Core.Path.{_≡_, refl, ap, sym, _∙_}
 use mathlib.Core.Logic.{_≢_}
 use mathlib.Core.Bool.{Bool, true, false, cond}
-use mathlib.Core.List.{List, [], _∷_}
+use mathlib.Core.List.{List}
 use Prim.Native.Nat.{ℕ, suc, _+_, _-_, _*_, _≤_, _<_}
 use native.Mathlib.Numerals.{add-one}
 use native.Mathlib.Omega.{arith}
@@ -12,8 +12,8 @@ use lib.ListN.{length, getD, set, take, drop, length-set}
 use lib.Seq.{take-all, getD-set-same, getD-set-other}
 use Rattle.base.specs.Numbers.{indicator}
 use Rattle.limits.specs.Limits.{most-leaves, most-nodes, most-numbers, IsLeafCount}
-use Rattle.trees.specs.Trees.{Tree, leaf, node, LeafSet}
-use Rattle.trees.specs.Listings.{KeepsRules, tree-of}
+use Rattle.trees.specs.Trees.{leaf, node, LeafSet}
+use Rattle.trees.specs.Listings.{tree-of}
 use Rattle.trees.specs.inner.Forests.{unused, uses, lawful}
 use Rattle.trees.proofs.Forests.{LawfulRow}
 use Rattle.trees.proofs.Rules.{to-lawful}
@@ -21,11 +21,11 @@ use Rattle.trees.proofs.AddedRows.{next-row, rows-read}
 use Rattle.spanned_trees.specs.Spans.{rank}
 use Rattle.spanned_trees.proofs.Ranks.{rank-zero, rank-suc, rank-most}
 use Rattle.rerooted_rows.specs.declared.Joined.{Joined}
-use Rattle.rerooted_rows.specs.inner.Arrays.{backwards, JoinFits, Joins}
+use Rattle.rerooted_rows.specs.inner.Arrays.{backwards, Joins}
 use Rattle.rerooted_rows.proofs.Arrays.{joins-rows, joins-chain, joins-rows-long, joins-chain-long, join-fits}
 use Rattle.spanned_rows.specs.inner.Marks.{marked, nothing, leaf-number, LeavesNumbered}
-use Rattle.spanned_rows.specs.inner.Parts.{part, gather, holds, but, free, all-come, Underway, JoinsKept}
-use Rattle.spanned_rows.specs.inner.Parts.{JoinKeptFits, Added, MayJoinRows, RowsJoined}
+use Rattle.spanned_rows.specs.inner.Parts.{part, all-come, JoinsKept, JoinKeptFits, MayJoinRows, RowsJoined}
+use Rattle.spanned_rows.proofs.Parts.{Underway, Added}
 use Rattle.spanned_rows.proofs.Parts.{used-free, both-numbered, next-underway, first-underway, whole-accounted}
 use Rattle.spanned_rows.proofs.Parts.{whole-stands, free-zero, free-top, zero-top}
 
@@ -191,7 +191,8 @@ module _ {n m : ℕ} {l numbers₀ numbers rows chain : List ℕ} {c made chaine
         let p = take (2 * (c - n)) l in
         let U = J .underway (M .stay) (M .leaves) (M .as-many) in
         join-fits m made chained rows chain all-come (M .new-count) (M .rows-long) (M .chain-long) _ _ _
-        (both-numbered z few zm U a b (used-free n p a (row .first)) (used-free n p b (row .second)) (row .differ) da db)
+        (both-numbered z few zm U a b (used-free n p a (row .first)) (used-free n p b (row .second)) (row .differ) da
+        db)
 
     pub joined-more :
         {rows′ chain′ : List ℕ} {r : Joined}

@@ -1,7 +1,7 @@
 -- Lists gathered of numbers that pass a test: one number taken out, and the ranks of the leaves that stay.
 use mathlib.Core.Path.{_≡_, refl}
 use mathlib.Core.Logic.{inl, inr, _≢_}
-use mathlib.Core.Bool.{Bool, true, false, not, cond, and-true, and-false}
+use mathlib.Core.Bool.{Bool, true, false, not, cond, _&&_, and-true, and-false}
 use mathlib.Core.List.{List, [], _∷_}
 use Prim.Native.Nat.{ℕ, zero, suc, _+_, _<_}
 use native.Mathlib.Omega.{arith}
@@ -14,7 +14,15 @@ use Rattle.trees.specs.Trees.{LeafSet}
 use Rattle.spanned_trees.specs.Spans.{rank}
 use Rattle.spanned_trees.proofs.Ranks.{rank-zero, rank-suc}
 use Rattle.rerooted_rows.specs.inner.Joining.{copies}
-use Rattle.spanned_rows.specs.inner.Parts.{gather, but}
+
+-- the f j of each j below k that passes
+unfoldable pub gather : ℕ → (ℕ → Bool) → (ℕ → ℕ) → List ℕ
+gather zero h f = []
+gather (suc k) h f = cond (h k) (f k ∷ gather k h f) (gather k h f)
+
+-- the same test, which a does not pass
+unfoldable pub but : ℕ → (ℕ → Bool) → ℕ → Bool
+but a h j = h j && not (eqb j a)
 
 pub but-in : (a : ℕ) (h : ℕ → Bool) (j : ℕ) → but a h j ≡ true → h j ≡ true
 unfolding but

@@ -1,19 +1,19 @@
 -- What stays of the subtrees of a listing, joined row by row: a row of the listing joins two free subtrees, and what
 -- stays of them is joined in the same way. At first the leaves are free, and at the end the tree and leaf 0.
-use mathlib.Core.Path.{_≡_, refl, ap, sym, _∙_}
+use mathlib.Core.Path.{_≡_, refl, sym, _∙_}
 use mathlib.Core.Logic.{_⊎_, inl, inr, _≢_}
 use mathlib.Core.Bool.{Bool, true, false, not, cond, _&&_, _||_, and-true, and-false}
 use mathlib.Core.List.{List, [], _∷_, _++_}
 use Prim.Native.Nat.{ℕ, suc, _+_, _-_, _*_, _≤_, _<_}
 use native.Mathlib.Omega.{arith}
 use native.Mathlib.Decide.{ℕ-discrete}
-use borrow.Author.Tests.{ltb-true, eqb-true, ne-eqb, lt-ltb, le-ltb}
+use borrow.Author.Tests.{ltb-true, eqb-true, ne-eqb, lt-ltb}
 use lib.Dec.{ltb, eqb}
 use lib.ListN.{length, length-append}
 use Rattle.base.specs.Numbers.{indicator}
-use Rattle.base.proofs.Bools.{bool?, never, is-false, or-left, or-right, or-cases, and-both, and-is, eqb-same}
+use Rattle.base.proofs.Bools.{bool?, never, is-false, or-left, or-right, or-cases, and-both}
 use Rattle.limits.specs.Limits.{most-leaves, IsLeafCount}
-use Rattle.trees.specs.Trees.{Tree, leaf, node, LeafSet, leaves, IsTree}
+use Rattle.trees.specs.Trees.{Tree, leaf, node, LeafSet, leaves}
 use Rattle.trees.specs.Listings.{KeepsRules, with-rows, subtree-at, tree-of}
 use Rattle.trees.specs.Renumbering.{renumbered}
 use Rattle.trees.specs.inner.Forests.{unused, use-row, uses, lawful}
@@ -25,14 +25,43 @@ use Rattle.trees.proofs.AddedRows.{row-kept, after-row, node-unused, subtree-at
 use Rattle.spanned_trees.specs.Spans.{meets, kept, rank}
 use Rattle.spanned_trees.proofs.Kept.{meets-leaf, meets-node, kept-leaf, kept-both, kept-first, kept-second}
 use Rattle.spanned_trees.proofs.Spans.{some-stay}
-use Rattle.rerooted_rows.specs.inner.Joining.{copies, joined-number, joined-chain, joined-rows, joined-count, Hangs}
+use Rattle.rerooted_rows.specs.inner.Joining.{copies, joined-number, joined-chain, joined-rows, joined-count}
 use Rattle.rerooted_rows.specs.inner.Joining.{Stands, unseen, Accounted}
 use Rattle.rerooted_rows.proofs.Joining.{held-below, accounted-like, Joint, joint}
 use Rattle.rerooted_rows.proofs.Finishing.{chain-short, none-unseen}
 use Rattle.spanned_rows.specs.inner.Marks.{nothing, leaf-number}
-use Rattle.spanned_rows.specs.inner.Parts.{part, gather, free, holds, but, all-come, Underway, Added}
-use Rattle.spanned_rows.proofs.Gathering.{but-in, but-same, but-other, gather-ext, gather-none, copies-cond}
-use Rattle.spanned_rows.proofs.Gathering.{gather-but, gather-in, gather-ranks}
+use Rattle.spanned_rows.specs.inner.Parts.{part, all-come}
+use Rattle.spanned_rows.proofs.Gathering.{gather, but, but-in, but-same, but-other, gather-ext, gather-none}
+use Rattle.spanned_rows.proofs.Gathering.{copies-cond, gather-but, gather-in, gather-ranks}
+
+-- leaf 0, or a number that the rows p have not used
+unfoldable pub free : ℕ → List ℕ → ℕ → Bool
+free n p x = eqb x 0 || uses (unused n) n p x
+
+-- and something stays of it
+unfoldable pub holds : LeafSet → ℕ → List ℕ → ℕ → Bool
+holds v n p x = free n p x && meets v (subtree-at n p x)
+
+-- After the rows p of a listing of n leaves, r of them: `made` rows of a listing of m leaves are written, and the
+-- chain; f has the number of what stays of each free subtree.
+pub record Underway (n m : ℕ) (v : LeafSet) (p : List ℕ) (r : ℕ) (f : ℕ → ℕ) (made : ℕ) (rows chain : List ℕ) :
+    Type 0 where
+  pub long : length p ≡ 2 * r
+  pub kept : lawful (unused n) n p ≡ true
+  pub accounted : Accounted m made rows chain (gather (n + r) (holds v n p) f) all-come
+  pub stands : (x : ℕ) → holds v n p x ≡ true → Stands (subtree-at m rows) chain (f x) (part v (subtree-at n p x))
+  pub gone : (x : ℕ) → free n p x ≡ true → meets v (subtree-at n p x) ≡ false → f x ≡ nothing
+
+-- What stays of two subtrees, whose numbers are x and y, is joined in lists: where nothing stays of one, it is the
+-- other.
+pub record Added (m x y made : ℕ) (rows chain : List ℕ) (number made′ : ℕ) (rows′ chain′ : List ℕ) : Type 0 where
+  pub first-gone : x ≡ nothing → (number ≡ y) × (made′ ≡ made) × (rows′ ≡ rows) × (chain′ ≡ chain)
+  pub second-gone :
+      x ≢ nothing → y ≡ nothing → (number ≡ x) × (made′ ≡ made) × (rows′ ≡ rows) × (chain′ ≡ chain)
+  pub both :
+      x ≢ nothing → y ≢ nothing
+      → (number ≡ joined-number m made x y) × (made′ ≡ joined-count x y made) × (rows′ ≡ joined-rows x y rows)
+      × (chain′ ≡ joined-chain x y chain)
 
 holds-free : (v : LeafSet) (n : ℕ) (p : List ℕ) (x : ℕ) → holds v n p x ≡ true → free n p x ≡ true
 unfolding holds

@@ -1,5 +1,5 @@
 -- A row added after lawful rows, of two numbers that these have not used: the rows stay lawful, its node is not used,
--- and under the numbers before it stands what stood there. And a row added in an array; and lawful rows read one by one.
+-- and under the numbers before it stands what stood there. A row added in an array; and lawful rows read one by one.
 use mathlib.Core.Path.{_≡_, refl, ap, sym, _∙_}
 use mathlib.Core.Logic.{_≢_}
 use mathlib.Core.Bool.{true}
@@ -62,7 +62,7 @@ row-stored rows m a b h =
     (take-suc-set (set rows (2 * m) a) (suc (2 * m)) b inside
     ∙ rw (take-suc-set rows (2 * m) a (omega arith)) (append-snoc (take (2 * m) rows) a (b ∷ [])))
 
--- Lawful rows read one by one: the first r are lawful, and the next joins two different numbers that they have not used.
+-- Lawful rows read one by one: the first r are lawful, and the next joins two numbers that they have not used.
 module _ (n : ℕ) (l : List ℕ) (r : ℕ) (inside : 2 * r + 1 < length l) where
   pub next-row : take (2 * (r + 1)) l ≡ take (2 * r) l ++ (getD l (2 * r) 0 ∷ getD l (2 * r + 1) 0 ∷ [])
   next-row =

@@ -63,7 +63,8 @@ standard-rows-requires c κs =
     let told = written .before .before .before in
     let drawn = told .before .before .read-text .ensures .drawn (told .enum-told .given .1) in
     let s = started written in
-    (s .pre .0, rw (chain-front _ (drawn .room) (drawn .keeps) (written .write-chain .ensures .0)) (drawn .keeps), s .pre .3)
+    let listed = chain-front _ (drawn .room) (drawn .keeps) (written .write-chain .ensures .0) in
+    (s .pre .0, rw listed (drawn .keeps), s .pre .3)
 
 returns-2 : tie.Need-returns-2
 returns-2 c =

@@ -1,5 +1,5 @@
--- Rows and chain in arrays: how two subtrees are joined there, and the rows that the chain makes behind those written so
--- far. No public contract cites this.
+-- Rows and chain in arrays: how two subtrees are joined there, and the rows that the chain makes behind those written
+-- so far. No public contract cites this.
 use mathlib.Core.Path.{_≡_}
 use mathlib.Core.Logic.{_≢_}
 use mathlib.Core.Bool.{cond}

@@ -1,8 +1,8 @@
 -- The rows of a tree rerooted at leaf 0, as they are written while subtrees are joined. Each subtree has a number. Two
 -- subtrees without leaf 0 are joined by a row. If one of the two has leaf 0, no row is written: what they make has the
--- number 0, and the number of the other is put before the chain. When all is joined, the chain holds the subtrees beside
--- the way from leaf 0 to the top, and the rows of the tree rerooted at leaf 0 are made of it. No public contract cites
--- this.
+-- number 0, and the number of the other is put before the chain. When all is joined, the chain holds the subtrees
+-- beside the way from leaf 0 to the top, and the rows of the tree rerooted at leaf 0 are made of it. No public contract
+-- cites this.
 use mathlib.Core.Path.{_≡_}
 use mathlib.Core.Logic.{_⊎_}
 use mathlib.Core.Bool.{Bool, true, false, not, cond, _&&_, _||_}

@@ -1,11 +1,12 @@
 -- `spanned_rows::join_kept` meets its contract: one lemma for each way out.
-use borrow.Author.Needs.{needs}
 use Rattle.spanned_rows.proofs.Arrays.{kept-first-gone, kept-second-gone, kept-both-there}
 use Rattle.spanned_rows.proofs.join_kept.Statement.{statement}
 use Rattle.spanned_rows.proofs.join_kept.Tie as tie
 
 join-requires : tie.Need-join-requires
-join-requires c κs = c .before .before .before .before .pre (c .before .before .before .if1 .left) (c .before .before .if2 .left)
+join-requires c κs =
+    let first = c .before .before .before in
+    first .before .pre (first .if1 .left) (c .before .before .if2 .left)
 
 pub join-kept-spec : {M : Type 1} → statement M
 join-kept-spec =

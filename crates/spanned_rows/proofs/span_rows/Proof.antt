@@ -1,9 +1,8 @@
--- `spanned_rows::span_rows` meets its contract: the leaves are numbered, what stays is joined, and the chain is written.
-use native.Mathlib.Omega.{arith}
+-- `spanned_rows::span_rows` meets its contract: leaves are numbered, what stays is joined, and the chain is written.
 use borrow.Author.Needs.{needs}
 use Prim.Native.Nat.{ℕ}
 use lib.ListN.{length-replicate}
-use Rattle.limits.specs.Limits.{most-leaves, IsLeafCount}
+use Rattle.limits.specs.Limits.{most-leaves}
 use Rattle.spanned_rows.proofs.Spanned.{span-fits, span-end}
 use Rattle.spanned_rows.proofs.span_rows.Statement.{statement}
 use Rattle.spanned_rows.proofs.span_rows.Tie as tie
