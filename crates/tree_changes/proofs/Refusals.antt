@@ -1,9 +1,9 @@
--- What is judged before a tree is changed, one go after the other; and what holds where nothing is refused.
+-- What is judged before a tree is changed, one go after the other.
 use mathlib.Core.Path.{_≡_, ap, sym, _∙_}
 use mathlib.Core.Logic.{_≢_}
 use mathlib.Core.Bool.{Bool, true, false, _&&_}
 use mathlib.Core.List.{List, [], _∷_}
-use mathlib.Core.Option.{Option, none, some}
+use mathlib.Core.Option.{Option, none}
 use Prim.Native.Nat.{ℕ, _-_, _*_, _≤_, _<_}
 use native.Mathlib.Omega.{arith}
 use lib.ListN.{length}
@@ -15,14 +15,14 @@ use Rattle.refusals.specs.declared.Refusal.the-variants.{LeafCount as Count, In
 use Rattle.refusals.specs.declared.Outcome.{Outcome}
 use Rattle.refusals.specs.declared.Outcome.the-variants.{Done, Refused}
 use Rattle.refusals.specs.Refusals.{refuse, judged, outcome-of}
-use Rattle.refusals.proofs.Answers.{refuse-passed, refuse-failed, refuse-none, judged-stops, judged-passes, judged-alone, judged-nest, judged-none}
-use Rattle.refusals.proofs.Answers.{go-stops, go-passes, call-passed}
+use Rattle.refusals.proofs.Answers.{refuse-passed, refuse-failed, judged-stops, judged-passes, judged-alone, judged-nest, judged-none}
+use Rattle.refusals.proofs.Answers.{go-stops, go-passes}
 use Rattle.checks.specs.Sizes.{right-count, count-refusal, length-refusal, room-refusal}
 use Rattle.checks.proofs.Sizes.{count-stops, count-passes, count-right, length-stops, length-passes, length-right}
 use Rattle.checks.proofs.Sizes.{room-stops, room-passes, room-right}
 use Rattle.trees.specs.Trees.{Tree}
 use Rattle.trees.specs.Listings.{rules-refusal, KeepsRules, tree-of}
-use Rattle.trees.specs.Tables.{table-of, is-own-table, cells-refusal}
+use Rattle.trees.specs.Tables.{is-own-table, cells-refusal}
 use Rattle.trees.proofs.Tables.{passes-exactly, had-is-table, scale-one, own-exactly}
 use Rattle.listings.specs.Operations.{listing-refusal}
 use Rattle.listings.proofs.ListingRefusal.{rules-left}
@@ -186,28 +186,3 @@ module _ (n : ℕ) (l t : List ℕ) (c : Change) (room space : ℕ) where
         pub cells-decide : {q : Outcome} → q ≡ outcome-of due → q ≡ outcome-of whole
         unfolding cells-or-own-refusal
         cells-decide told = told ∙ ap outcome-of (sym (rules-next ∙ judged-passes _ (keeps .rules)))
-
-  -- what is not refused
-  pub record Accepted : Type 0 where
-    pub count : IsLeafCount n
-    pub sizes : RightSizes n (count-after n c) (length l) (length t) room space
-    pub keeps : KeepsRules n l
-    pub there : is-there n c ≡ true
-    pub is-own : t ≡ table-of n (tree-of n l)
-
-  pub accepted-change : whole ≡ none → Accepted
-  accepted-change h =
-      let k = count-right Counts n (unfold change-refusal in judged-none (count-refusal n) _ h .0) in
-      let a = judged-none sized _ (sym (sizes-next k) ∙ h) in
-      let b = judged-none (rules-refusal n l) _ (a .1) in
-      let d = judged-none (cells-refusal n t) _ (b .1) in
-      let e = judged-none own _ (d .1) in
-      let both = and-both (is-there n c) (is-own-table n t (tree-of n l)) (refuse-none _ NotOwn (e .0)) in
-      let w = right k (a .0) in
-      record {
-        count = k;
-        sizes = w;
-        keeps = record { numbers = w .long; rules = b .0 };
-        there = both .0;
-        is-own = own-exactly n t (tree-of n l) (w .square) .0 (both .1);
-      }

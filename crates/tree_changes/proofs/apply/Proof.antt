@@ -1,6 +1,6 @@
 -- `tree_changes::apply` meets its contract: nothing is written before all is judged; then the listing, then the table of
 -- the tree that it stands for.
-use mathlib.Core.Path.{_≡_, refl, sym}
+use mathlib.Core.Path.{refl}
 use borrow.Author.Needs.{needs}
 use lib.ListN.{length}
 use Rattle.refusals.proofs.Answers.{call-passed}
@@ -9,7 +9,7 @@ use Rattle.trees.specs.Listings.{tree-of}
 use Rattle.trees.proofs.Rules.{listing-tree}
 use Rattle.change_answers.specs.Operations.{count-after, changed, change-answer, change-table}
 use Rattle.change_answers.proofs.Changes.{changed-tree}
-use Rattle.tree_changes.proofs.Refusals.{Accepted, accepted-change}
+use Rattle.change_answers.proofs.Accepted.{Accepted, accepted-change}
 use Rattle.tree_changes.proofs.Results.{front-fits, front-keeps, listing-put, table-put, both-refused, both-done}
 use Rattle.tree_changes.proofs.apply.Statement.{statement}
 use Rattle.tree_changes.proofs.apply.Tie as tie
@@ -39,23 +39,23 @@ module _ (c : tie.After-enum-told) where
 write-rows-requires : tie.Need-write-rows-requires
 write-rows-requires c κs =
     let w = right (c .before) in
-    (w .count, w .sizes .count, w .keeps, w .there, w .sizes .enough)
+    (w .count, w .new-count, w .keeps, w .there, w .enough)
 
 write-table-requires : tie.Need-write-table-requires
 write-table-requires c κs =
     let s = c .before .before .before .before .before .before .before in
     let w = right s in
     let put = c .before .before .before .before .before .write-rows .ensures in
-    let k = w .sizes .count in
+    let k = w .new-count in
     rw (c .before .before .count-after .ensures)
-    (k, front-fits _ k _ (is-tree s) _ _ put, front-keeps _ k _ (is-tree s) _ _ put, w .sizes .enough-cells)
+    (k, front-fits _ k _ (is-tree s) _ _ put, front-keeps _ k _ (is-tree s) _ _ put, w .enough-cells)
 
 returns-2 : tie.Need-returns-2
 unfolding change-answer change-table
 returns-2 c =
     let s = c .before .before .before .before .before .before .before .before .before .before in
     let w = right s in
-    let k = w .sizes .count in
+    let k = w .new-count in
     let put = c .before .before .before .before .before .before .before .before .write-rows .ensures in
     let told = s .before .before .judge .ensures in
     let table = rw (c .before .before .before .before .before .count-after .ensures) at

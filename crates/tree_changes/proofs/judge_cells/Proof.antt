@@ -1,7 +1,6 @@
 -- `tree_changes::judge_cells` meets its contract: a table that fits is not judged further; another is refused by 4 or 5,
 -- or else by 20.
-use mathlib.Core.Path.{_≡_, sym, _∙_}
-use mathlib.Core.Bool.{true, false}
+use mathlib.Core.Path.{sym, _∙_}
 use borrow.Author.Needs.{needs}
 use Rattle.trees.specs.Listings.{tree-of}
 use Rattle.tree_changes.proofs.Refusals.{fit-told, cells-stop, unfit-told}
