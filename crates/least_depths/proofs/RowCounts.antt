@@ -4,6 +4,7 @@ use mathlib.Core.Path.{_≡_, ap, sym, _∙_}
 use mathlib.Core.Logic.{_⊎_, inl, inr, _≢_}
 use mathlib.Core.List.{List}
 use Prim.Native.Nat.{ℕ, _+_, _-_, _*_, _/_, _%_, _≤_, _<_}
+use native.Mathlib.Nat.{div-lt-iff-lt-mul, mod-lt}
 use native.Mathlib.Omega.{arith}
 use native.Mathlib.Decide.{ℕ-discrete}
 use lib.ListN.{length}
@@ -20,8 +21,8 @@ use Rattle.leaf_orders.specs.inner.Orders.{most-sum, whole, at, IsPlan}
 use Rattle.leaf_orders.proofs.LeafOrders.{place-in, leaf-at}
 use Rattle.leaf_orders.proofs.Planned as planned
 use Rattle.leaf_orders.proofs.Rows.{pairs-small}
-use Rattle.least_depths.specs.inner.Depths.{LeafOrder, LeastDepths, count-in, RowFound}
-use Rattle.least_depths.specs.inner.Rows.{TableRowFits}
+use Rattle.least_depths.specs.inner.Depths.{LeafOrder, LeastDepths, TopsFrom, count-in, RowFound}
+use Rattle.least_depths.specs.inner.Rows.{TableRowFits, RowsHold}
 use Rattle.least_depths.proofs.Meeting.{Meets, meets}
 
 module _ (n : ℕ) (l : List ℕ) (count : IsLeafCount n) (keeps : KeepsRules n l) where
@@ -79,6 +80,33 @@ module _ (n : ℕ) (l : List ℕ) (count : IsLeafCount n) (keeps : KeepsRules n 
         → LeafOrder n order × (i < n) × (at places i < n) × (at aboves i ≤ most-sum) × (length tops ≡ most-leaves)
     row-asked {i} tops li long = (leaf-order, li, place-below i li, above-small i li, long)
 
+    -- the rows of the leaves at all places are all rows
+    pub all-rows :
+        {f : ℕ → ℕ} {cells : List ℕ} {m : ℕ} → m ≡ n → RowsHold n order f cells m → (k : ℕ) → k < n * n
+        → at cells k ≡ f k
+    all-rows e h k l =
+        let i = k / n in
+        let some : 0 < n = omega (arith, count .0) in
+        let li : i < n = div-lt-iff-lt-mul some .1 l in
+        h .right k (at places i) (omega (arith, place-below i li)) (sym (p .placed i li))
+
+    -- what `next_row` asks at place s, and what it finds for the row of the leaf there
+    module _ {s : ℕ} (ls : s < n) where
+      pub next-asked :
+          (tops : List ℕ) → length tops ≡ most-leaves → (0 < s → TopsFrom n aboves order depths (s - 1) tops)
+          → LeafOrder n order × (s < n) × (at aboves (at order s) ≤ most-sum) × (length tops ≡ most-leaves)
+          × (0 < s → TopsFrom n aboves order depths (s - 1) tops)
+      next-asked tops long last =
+          (leaf-order, ls, above-small (at order s) (leaf-order .below s ls), long, last)
+
+      pub next-found :
+          {base : ℕ} {tops : List ℕ} → base ≡ at aboves (at order s) → TopsFrom n aboves order depths s tops
+          → LeastDepths n order depths (at places (at order s)) (whole - (base + base)) tops
+      next-found eb t =
+          let r = leaf-there s ls in
+          let there : at places (at order s) ≡ s = rw (r .3) (r .2) in
+          rw (there, eb) t
+
     -- the counts of row i
     module _ {i base : ℕ} {tops : List ℕ} (li : i < n) (eb : base ≡ at aboves i)
         (t : LeastDepths n order depths (at places i) (whole - (base + base)) tops) where
@@ -114,6 +142,9 @@ module _ (n : ℕ) (l : List ℕ) (count : IsLeafCount n) (keeps : KeepsRules n 
       -- a cell of the row, by its place in the table
       pub cell-is : (j : ℕ) → j < n → quartets n T ((i * n + j) / n) ((i * n + j) % n) ≡ count-in base aboves tops j
       cell-is j lj = rw (row-of n i j lj, column-of n i j lj) (omega (arith, row-counts j lj))
+
+      pub cell-in-row : (k : ℕ) → k / n ≡ i → quartets n T (k / n) (k % n) ≡ count-in base aboves tops (k % n)
+      cell-in-row k e = rw e (omega (arith, row-counts (k % n) (mod-lt k (omega arith))))
 
       row-found : RowFound n base aboves tops
       row-found = record {
