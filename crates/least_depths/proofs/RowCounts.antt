@@ -25,6 +25,10 @@ use Rattle.least_depths.specs.inner.Depths.{LeafOrder, LeastDepths, Tops
 use Rattle.least_depths.specs.inner.Rows.{TableRowFits, RowsHold}
 use Rattle.least_depths.proofs.Meeting.{Meets, meets}
 
+-- the cells of the table, one after the other
+abbrev pub cell-at : (n : ℕ) (l : List ℕ) → ℕ → ℕ
+cell-at n l k = quartets n (tree-of n l) (k / n) (k % n)
+
 module _ (n : ℕ) (l : List ℕ) (count : IsLeafCount n) (keeps : KeepsRules n l) where
   -- the tree under leaf 0, and with leaf 0 put on
   abbrev T : Tree
@@ -90,22 +94,14 @@ module _ (n : ℕ) (l : List ℕ) (count : IsLeafCount n) (keeps : KeepsRules n 
         let li : i < n = div-lt-iff-lt-mul some .1 l in
         h .right k (at places i) (omega (arith, place-below i li)) (sym (p .placed i li))
 
-    -- what `next_row` asks at place s, and what it finds for the row of the leaf there
-    module _ {s : ℕ} (ls : s < n) where
-      pub next-asked :
-          (tops : List ℕ) → length tops ≡ most-leaves → (0 < s → TopsFrom n aboves order depths (s - 1) tops)
-          → LeafOrder n order × (s < n) × (at aboves (at order s) ≤ most-sum) × (length tops ≡ most-leaves)
-          × (0 < s → TopsFrom n aboves order depths (s - 1) tops)
-      next-asked tops long last =
-          (leaf-order, ls, above-small (at order s) (leaf-order .below s ls), long, last)
-
-      pub next-found :
-          {base : ℕ} {tops : List ℕ} → base ≡ at aboves (at order s) → TopsFrom n aboves order depths s tops
-          → LeastDepths n order depths (at places (at order s)) (whole - (base + base)) tops
-      next-found eb t =
-          let r = leaf-there s ls in
-          let there : at places (at order s) ≡ s = rw (r .3) (r .2) in
-          rw (there, eb) t
+    -- what `next_row` asks at place s
+    pub next-asked :
+        {s : ℕ} (tops : List ℕ) → s < n → length tops ≡ most-leaves
+        → (0 < s → TopsFrom n aboves order depths (s - 1) tops)
+        → LeafOrder n order × (s < n) × (at aboves (at order s) ≤ most-sum) × (length tops ≡ most-leaves)
+        × (0 < s → TopsFrom n aboves order depths (s - 1) tops)
+    next-asked {s} tops ls long last =
+        (leaf-order, ls, above-small (at order s) (leaf-order .below s ls), long, last)
 
     -- the counts of row i
     module _ {i base : ℕ} {tops : List ℕ} (li : i < n) (eb : base ≡ at aboves i)
@@ -143,9 +139,6 @@ module _ (n : ℕ) (l : List ℕ) (count : IsLeafCount n) (keeps : KeepsRules n 
       pub cell-is : (j : ℕ) → j < n → quartets n T ((i * n + j) / n) ((i * n + j) % n) ≡ count-in base aboves tops j
       cell-is j lj = rw (row-of n i j lj, column-of n i j lj) (omega (arith, row-counts j lj))
 
-      pub cell-in-row : (k : ℕ) → k / n ≡ i → quartets n T (k / n) (k % n) ≡ count-in base aboves tops (k % n)
-      cell-in-row k e = rw e (omega (arith, row-counts (k % n) (mod-lt k (omega arith))))
-
       row-found : RowFound n base aboves tops
       row-found = record {
         covered = λ j lj. omega (arith, row-counts j lj);
@@ -155,3 +148,24 @@ module _ (n : ℕ) (l : List ℕ) (count : IsLeafCount n) (keeps : KeepsRules n 
       -- what the functions that write the row ask
       pub row-fits : {room : ℕ} → n * n ≤ room → TableRowFits n i base aboves tops room
       row-fits enough = record { few = count .1; row = li; enough = enough; found = row-found }
+
+    -- the row of the leaf at place s, as `next_row` finds it
+    module _ {s base : ℕ} {tops : List ℕ} (ls : s < n)
+        (found : (base ≡ at aboves (at order s)) × TopsFrom n aboves order depths s tops) where
+      abbrev i : ℕ
+      i = at order s
+
+      li : i < n
+      li = leaf-order .below s ls
+
+      least : LeastDepths n order depths (at places i) (whole - (base + base)) tops
+      least =
+          let r = leaf-there s ls in
+          let there : at places i ≡ s = rw (r .3) (r .2) in
+          rw (there, found .0) (found .1)
+
+      pub next-fits : {room : ℕ} → n * n ≤ room → TableRowFits n i base aboves tops room
+      next-fits enough = row-fits li (found .0) least enough
+
+      pub next-cells : (k : ℕ) → k / n ≡ i → cell-at n l k ≡ count-in base aboves tops (k % n)
+      next-cells k e = rw e (omega (arith, row-counts li (found .0) least (k % n) (mod-lt k (omega arith))))

@@ -1,23 +1,16 @@
 -- `tree_tables::fill_table` meets its contract: the rows of the leaves at the places before p are written.
 use mathlib.Core.Path.{_≡_, refl}
-use mathlib.Core.List.{List}
-use Prim.Native.Nat.{ℕ, _+_, _-_, _*_, _/_, _%_, _≤_, _<_}
+use Prim.Native.Nat.{_+_, _-_, _≤_, _<_}
 use native.Mathlib.Omega.{arith}
 use borrow.Author.Needs.{needs}
 use lib.ListN.{length}
 use Rattle.limits.specs.Limits.{most-leaves}
-use Rattle.trees.specs.Listings.{tree-of}
-use Rattle.trees.specs.Quartets.{quartets}
 use Rattle.trees.specs.Tables.{table-of}
 use Rattle.least_depths.specs.inner.Depths.{TopsFrom}
-use Rattle.least_depths.proofs.RowCounts.{leaf-order, next-asked, next-found, cell-in-row, row-fits, all-rows}
+use Rattle.least_depths.proofs.RowCounts.{cell-at, leaf-order, next-asked, next-fits, next-cells, all-rows}
 use Rattle.tree_tables.proofs.Rows.{RowsPut, rows-begun, row-put, rows-whole}
 use Rattle.tree_tables.proofs.fill_table.Statement.{statement}
 use Rattle.tree_tables.proofs.fill_table.Tie as tie
-
--- the cells of the table, one after the other
-abbrev cell-at : ℕ → List ℕ → ℕ → ℕ
-cell-at n l k = quartets n (tree-of n l) (k / n) (k % n)
 
 abbrev Inv-loop : tie.InvT-loop
 Inv-loop n listing out₀ aboves order depths tops₀ p₀ out tops p =
@@ -41,7 +34,7 @@ next-row-requires c κs =
     let i = tested .before .loop in
     let made = tested .before .before in
     let s = made .before .before .before .before .before .before .before in
-    next-asked _ _ (s .pre .0) (s .pre .1) (made .leaf-order .ensures) (omega arith) (i .tops) (i .inv .1) (i .inv .2)
+    next-asked _ _ (s .pre .0) (s .pre .1) (made .leaf-order .ensures) (i .tops) (omega arith) (i .inv .1) (i .inv .2)
 
 write-row-requires : tie.Need-write-row-requires Inv-loop μ-loop
 write-row-requires c κs =
@@ -50,11 +43,7 @@ write-row-requires c κs =
     let i = tested .before .loop in
     let made = tested .before .before in
     let s = made .before .before .before .before .before .before .before in
-    let plan = made .leaf-order .ensures in
-    let inside = tested .loop-test .taken in
-    let o = leaf-order _ _ (s .pre .0) (s .pre .1) plan in
-    row-fits _ _ (s .pre .0) (s .pre .1) plan (o .below (i .p) inside) (found .0)
-    (next-found _ _ (s .pre .0) (s .pre .1) plan inside (found .0) (found .1))
+    next-fits _ _ (s .pre .0) (s .pre .1) (made .leaf-order .ensures) (tested .loop-test .taken) found
     (omega (arith, s .pre .2, i .inv .3 .same-length))
 
 loop-again : tie.Need-loop-again Inv-loop μ-loop
@@ -66,13 +55,10 @@ loop-again c =
     let s = made .before .before .before .before .before .before .before in
     let plan = made .leaf-order .ensures in
     let inside = tested .loop-test .taken in
-    let o = leaf-order _ _ (s .pre .0) (s .pre .1) plan in
-    let cell =
-    cell-in-row _ _ (s .pre .0) (s .pre .1) plan (o .below (i .p) inside) (found .0)
-    (next-found _ _ (s .pre .0) (s .pre .1) plan inside (found .0) (found .1)) in
+    let cell = next-cells _ _ (s .pre .0) (s .pre .1) plan inside found in
     let this : i .p + 1 - 1 ≡ i .p = omega arith in
     (omega arith, found .1 .long, λ l. rw this (found .1),
-    row-put o inside cell (i .inv .3) (c .before .before .write-row .ensures))
+    row-put (leaf-order _ _ (s .pre .0) (s .pre .1) plan) inside cell (i .inv .3) (c .before .before .write-row .ensures))
 
 same-length : tie.Need-same-length Inv-loop μ-loop
 same-length c = c .before .loop .inv .3 .same-length
