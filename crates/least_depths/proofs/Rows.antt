@@ -51,7 +51,9 @@ module _ {n : ℕ} {order cells : List ℕ} {f : ℕ → ℕ} where
   pub rows-more :
       {p : ℕ} → RowsHold n order f cells p → ((k : ℕ) → k / n ≡ at order p → at cells k ≡ f k)
       → RowsHold n order f cells (p + 1)
-  rows-more {p = p} old new = record { right = λ k q l e. elim (ℕ-discrete q p) [
-    | yes s ↦ new k (rw s at e)
-    | no d ↦ old .right k q (omega arith) e
-  ] }
+  rows-more {p = p} old new = record {
+    right = λ k q l e. elim (ℕ-discrete q p) [
+      | yes s ↦ new k (rw s at e)
+      | no d ↦ old .right k q (omega arith) e
+    ];
+  }

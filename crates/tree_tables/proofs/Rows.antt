@@ -60,8 +60,10 @@ module _ {n : ℕ} {order : List ℕ} {f : ℕ → ℕ} where
     same-length = r .same-length ∙ w .same-length;
     put =
         rows-more
-        (record { right = λ k q l e.
-            r .kept k (λ g. below q l (o .once q p (omega arith) lp (sym e ∙ g))) ∙ w .put .right k q l e })
+        (record {
+          right = λ k q l e.
+              r .kept k (λ g. below q l (o .once q p (omega arith) lp (sym e ∙ g))) ∙ w .put .right k q l e;
+        })
         (λ k e. r .put k e (mod-lt k some) ∙ sym (h k e));
     kept = λ k l.
         let out-of-it : k / n ≢ at order p =

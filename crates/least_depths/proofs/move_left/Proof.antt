@@ -25,9 +25,12 @@ abbrev μ-loop : tie.MeasureT-loop
 keep-least-requires : tie.Need-keep-least-requires Inv-loop μ-loop
 keep-least-requires c κs =
     let s = c .before in
-    let o = s .pre .0 in
-    (omega (arith, o .few), omega (arith, o .few), omega (arith, o .below (s .args .p - 1) (omega arith), o .few),
-    s .pre .3)
+    let o = s .pre .0 in (
+      omega (arith, o .few),
+      omega (arith, o .few),
+      omega (arith, o .below (s .args .p - 1) (omega arith), o .few),
+      s .pre .3,
+    )
 
 -- the place before p has its own
 first :
@@ -78,25 +81,33 @@ loop-again c =
     let some = c .before .before .before .is-deeper .ensures .0 (c .before .before .if1 .taken) .0 in
     let next =
     before-more (a .n) (a .order .now) (a .depths .now) (i .tops) _ (a .p) (i .t) (i .low) (c .keep-least2 .result)
-    (s .pre .0) (i .inv .1) (r .0) (r .1) (r .2) some (omega arith) (s .pre .2) (i .inv .2) (i .inv .3) (r .3) in
-    (omega arith, next .0, next .1, next .2, λ v w l. elim w [
-      | inl b ↦ next .3 v l (omega arith) ∙ i .inv .4 v (inl (omega arith)) l
-      | inr b ↦ next .3 v l (omega arith) ∙ i .inv .4 v (inr b) l
-    ])
+    (s .pre .0) (i .inv .1) (r .0) (r .1) (r .2) some (omega arith) (s .pre .2) (i .inv .2) (i .inv .3) (r .3) in (
+      omega arith,
+      next .0,
+      next .1,
+      next .2,
+      λ v w l. elim w [
+        | inl b ↦ next .3 v l (omega arith) ∙ i .inv .4 v (inl (omega arith)) l
+        | inr b ↦ next .3 v l (omega arith) ∙ i .inv .4 v (inr b) l
+      ],
+    )
 
 returns : tie.Need-returns Inv-loop μ-loop
 returns c =
     let i = c .before .before .loop in
     let s = c .before .before .before .before .before in
     let stop = c .before .is-deeper .ensures .1 (c .if1 .left) in
-    let same = first (c .before .before .before) .3 in
-    (i .inv .1, λ v a b. elim (decLt v (i .t)) [
-      | yes l ↦
-          let less : at (s .args .depths .now) (i .t) ≤ at (s .args .depths .now) (s .args .p) =
-          omega (arith, stop (omega arith) (omega arith), i .inv .2 .bound (s .args .p) (i .inv .0) (omega arith)) in
-          rw (i .inv .4 v (inl l) (omega arith) ∙ same v (omega arith) (omega arith)) (before-still less l (i .inv .0) (s .pre .4 v a (omega arith)))
-      | no l ↦ i .inv .3 v (omega arith) b
-    ], λ v a b. i .inv .4 v (inr a) b ∙ same v b (omega arith))
+    let same = first (c .before .before .before) .3 in (
+      i .inv .1,
+      λ v a b. elim (decLt v (i .t)) [
+        | yes l ↦
+            let less : at (s .args .depths .now) (i .t) ≤ at (s .args .depths .now) (s .args .p) =
+            omega (arith, stop (omega arith) (omega arith), i .inv .2 .bound (s .args .p) (i .inv .0) (omega arith)) in
+            rw (i .inv .4 v (inl l) (omega arith) ∙ same v (omega arith) (omega arith)) (before-still less l (i .inv .0) (s .pre .4 v a (omega arith)))
+        | no l ↦ i .inv .3 v (omega arith) b
+      ],
+      λ v a b. i .inv .4 v (inr a) b ∙ same v b (omega arith),
+    )
 
 pub move-left-spec : {M : Type 1} → statement M
 move-left-spec =

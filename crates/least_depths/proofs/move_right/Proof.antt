@@ -26,9 +26,14 @@ abbrev μ-loop : tie.MeasureT-loop
 loop-holds : tie.Need-loop-holds Inv-loop μ-loop
 loop-holds c =
     let a = c .before .args in
-    let start : a .p + 1 - 1 ≡ a .p = omega arith in
-    (omega arith, omega arith, c .before .pre .3, rw start (shallowest-none _ _), λ s a b. absurd (omega arith),
-    λ s a b. refl)
+    let start : a .p + 1 - 1 ≡ a .p = omega arith in (
+      omega arith,
+      omega arith,
+      c .before .pre .3,
+      rw start (shallowest-none _ _),
+      λ s a b. absurd (omega arith),
+      λ s a b. refl,
+    )
 
 is-deeper-requires : tie.Need-is-deeper-requires Inv-loop μ-loop
 is-deeper-requires c κs = c .before .before .pre .0 .few
@@ -53,24 +58,33 @@ loop-again c =
     let inside = c .before .before .before .is-deeper .ensures .0 (c .before .before .if1 .taken) .1 in
     let next =
     after-more (a .n) (a .order .now) (a .depths .now) (i .tops) _ (a .p) (i .t) (i .low) (c .keep-least .result)
-    (s .pre .0) (i .inv .2) (r .0) (r .1) (r .2) (i .inv .0) inside (i .inv .3) (i .inv .4) (r .3) in
-    (omega arith, omega arith, next .0, next .1, next .2, λ v w l. elim w [
-      | inl b ↦ next .3 v l (omega arith) ∙ i .inv .5 v (inl b) l
-      | inr b ↦ next .3 v l (omega arith) ∙ i .inv .5 v (inr (omega arith)) l
-    ])
+    (s .pre .0) (i .inv .2) (r .0) (r .1) (r .2) (i .inv .0) inside (i .inv .3) (i .inv .4) (r .3) in (
+      omega arith,
+      omega arith,
+      next .0,
+      next .1,
+      next .2,
+      λ v w l. elim w [
+        | inl b ↦ next .3 v l (omega arith) ∙ i .inv .5 v (inl b) l
+        | inr b ↦ next .3 v l (omega arith) ∙ i .inv .5 v (inr (omega arith)) l
+      ],
+    )
 
 returns : tie.Need-returns Inv-loop μ-loop
 returns c =
     let i = c .before .before .loop in
     let s = c .before .before .before .before in
-    let stop = c .before .is-deeper .ensures .1 (c .if1 .left) (omega arith) in
-    (i .inv .2, λ v a b. elim (decLt v (i .t)) [
-      | yes l ↦ i .inv .4 v a l
-      | no l ↦
-          rw (i .inv .5 v (inr (omega arith)) b)
-          (after-still {t = i .t} (stop (omega arith)) (s .pre .1) (i .inv .0) (omega arith)
-          (s .pre .4 v (omega arith) b))
-    ], λ v a. i .inv .5 v (inl a) (omega arith))
+    let stop = c .before .is-deeper .ensures .1 (c .if1 .left) (omega arith) in (
+      i .inv .2,
+      λ v a b. elim (decLt v (i .t)) [
+        | yes l ↦ i .inv .4 v a l
+        | no l ↦
+            rw (i .inv .5 v (inr (omega arith)) b)
+            (after-still {t = i .t} (stop (omega arith)) (s .pre .1) (i .inv .0) (omega arith)
+            (s .pre .4 v (omega arith) b))
+      ],
+      λ v a. i .inv .5 v (inl a) (omega arith),
+    )
 
 pub move-right-spec : {M : Type 1} → statement M
 move-right-spec =

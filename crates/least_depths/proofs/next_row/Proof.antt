@@ -45,10 +45,12 @@ returns-2 c =
     let base = at (a .aboves .now) (at (a .order .now) (a .p)) in
     let right = c .before .before .move-right in
     let left = c .move-left in
-    let other = left .ensures in
-    (refl, topped (a .n) (a .order .now) (a .depths .now) (right .last .1 .1 .1 .1 .0) (left .last .1 .1 .1 .1 .0)
-    (a .p) (whole - (base + base)) (s .pre .0) (s .pre .1) (other .0) (right .ensures .1)
-    (λ v l. other .1 v (omega arith) l) (other .2))
+    let other = left .ensures in (
+      refl,
+      topped (a .n) (a .order .now) (a .depths .now) (right .last .1 .1 .1 .1 .0) (left .last .1 .1 .1 .1 .0)
+          (a .p) (whole - (base + base)) (s .pre .0) (s .pre .1) (other .0) (right .ensures .1)
+          (λ v l. other .1 v (omega arith) l) (other .2),
+    )
 
 pub next-row-spec : {M : Type 1} → statement M
 next-row-spec =

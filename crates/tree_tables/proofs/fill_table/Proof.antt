@@ -56,9 +56,12 @@ loop-again c =
     let plan = made .leaf-order .ensures in
     let inside = tested .loop-test .taken in
     let cell = next-cells _ _ (s .pre .0) (s .pre .1) plan inside found in
-    let this : i .p + 1 - 1 ≡ i .p = omega arith in
-    (omega arith, found .1 .long, λ l. rw this (found .1),
-    row-put (leaf-order _ _ (s .pre .0) (s .pre .1) plan) inside cell (i .inv .3) (c .before .before .write-row .ensures))
+    let this : i .p + 1 - 1 ≡ i .p = omega arith in (
+      omega arith,
+      found .1 .long,
+      λ l. rw this (found .1),
+      row-put (leaf-order _ _ (s .pre .0) (s .pre .1) plan) inside cell (i .inv .3) (c .before .before .write-row .ensures),
+    )
 
 same-length : tie.Need-same-length Inv-loop μ-loop
 same-length c = c .before .loop .inv .3 .same-length
