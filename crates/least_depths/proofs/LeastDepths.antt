@@ -9,7 +9,8 @@ use lib.ListN.{length, set, length-set}
 use lib.Seq.{getD-set-same, getD-set-other}
 use Rattle.limits.specs.Limits.{most-leaves}
 use Rattle.leaf_orders.specs.inner.Orders.{at}
-use Rattle.least_depths.specs.inner.Depths.{most-depth, LeafOrder, LeastBetween, LeastDepths}
+use Rattle.least_depths.specs.inner.Depths.{most-depth, LeafOrder, LeastBetween, After, Before}
+use Rattle.least_depths.specs.inner.Depths.{LeastDepths}
 
 -- between a place and itself there is no depth
 pub shallowest-none : (depths : List ℕ) (p : ℕ) → LeastBetween depths p p most-depth
@@ -39,18 +40,13 @@ module _ {n : ℕ} {order : List ℕ} (o : LeafOrder n order) (tops : List ℕ) 
   top-other t lt d = getD-set-other tops (at order s) (at order t) v 0 (λ e. d (o .once t s lt ls e))
 
 -- one place more, after p and before it; `tops′` has r stored for the leaf there
-abbrev pub After : (order depths : List ℕ) (p : ℕ) (tops : List ℕ) (m : ℕ) → Type 0
-After order depths p tops m = (s : ℕ) → p < s → s < m → LeastBetween depths p s (at tops (at order s))
-
-abbrev pub Before : (order depths : List ℕ) (p : ℕ) (tops : List ℕ) (m : ℕ) → Type 0
-Before order depths p tops m = (s : ℕ) → m ≤ s → s < p → LeastBetween depths s p (at tops (at order s))
-
 module _ (n : ℕ) (order depths tops tops′ : List ℕ) (p t low r : ℕ) (o : LeafOrder n order)
     (long : length tops ≡ most-leaves) (down : r ≤ low) (here : r ≤ at depths t)
     (greatest : (z : ℕ) → z ≤ low → z ≤ at depths t → z ≤ r) where
   pub after-more :
       p < t → t < n → LeastBetween depths p (t - 1) low → After order depths p tops t → tops′ ≡ set tops (at order t) r
       → (length tops′ ≡ most-leaves) × LeastBetween depths p (t + 1 - 1) r × After order depths p tops′ (t + 1)
+      × ((s : ℕ) → s < n → s ≢ t → at tops′ (at order s) ≡ at tops (at order s))
   after-more lp ln h old e =
       let next : t + 1 - 1 ≡ t = omega arith in
       rw (next, e) (
@@ -60,6 +56,7 @@ module _ (n : ℕ) (order depths tops tops′ : List ℕ) (p t low r : ℕ) (o :
           | yes q ↦ rw (q, top-here o tops r t ln long) new
           | no q ↦ rw (top-other o tops r t ln s (omega arith) q) (old s a (omega arith))
         ],
+        top-other o tops r t ln,
       )
     where
       new : LeastBetween depths p t r
@@ -71,7 +68,7 @@ module _ (n : ℕ) (order depths tops tops′ : List ℕ) (p t low r : ℕ) (o :
       0 < t → t ≤ p → p < n → LeastBetween depths t p low → Before order depths p tops t
       → tops′ ≡ set tops (at order (t - 1)) r
       → (length tops′ ≡ most-leaves) × LeastBetween depths (t - 1) p r × Before order depths p tops′ (t - 1)
-      × ((s : ℕ) → p < s → s < n → at tops′ (at order s) ≡ at tops (at order s))
+      × ((s : ℕ) → s < n → s ≢ t - 1 → at tops′ (at order s) ≡ at tops (at order s))
   before-more lt lp ln h old e = rw e (
     length-set tops (at order (t - 1)) r ∙ long,
     new,
@@ -79,13 +76,33 @@ module _ (n : ℕ) (order depths tops tops′ : List ℕ) (p t low r : ℕ) (o :
       | yes q ↦ rw (q, top-here o tops r (t - 1) (omega arith) long) new
       | no q ↦ rw (top-other o tops r (t - 1) (omega arith) s (omega arith) q) (old s (omega arith) b)
     ],
-    λ s a b. top-other o tops r (t - 1) (omega arith) s b (omega arith),
+    top-other o tops r (t - 1) (omega arith),
   )
     where
       new : LeastBetween depths (t - 1) p r
       new =
           shallowest-more h down here greatest (t - 1) p (omega arith) lp (λ s a b. (omega arith, b)) (λ s a b.
           elim (ℕ-discrete s t) [ yes q ↦ inr q | no q ↦ inl (omega arith, b) ])
+
+-- From place p − 1 to place p: where some depth t between is no larger than that before p, the least stays the least.
+module _ {depths : List ℕ} {p t s m : ℕ} (less : at depths t ≤ at depths p) where
+  pub after-still : 0 < p → p < t → t ≤ s → LeastBetween depths (p - 1) s m → LeastBetween depths p s m
+  after-still some l u h = record {
+    bound = λ v a b. h .bound v (omega arith) b;
+    greatest = λ z c g. h .greatest z c (λ v a b. elim (ℕ-discrete v p) [
+      | yes e ↦ rw e (omega (arith, g t l u))
+      | no d ↦ g v (omega arith) b
+    ]);
+  }
+
+  pub before-still : s < t → t < p → LeastBetween depths s (p - 1) m → LeastBetween depths s p m
+  before-still l u h = record {
+    bound = λ v a b. elim (ℕ-discrete v p) [
+      | yes e ↦ rw e (omega (arith, h .bound t l (omega arith)))
+      | no d ↦ h .bound v a (omega arith)
+    ];
+    greatest = λ z c g. h .greatest z c (λ v a b. g v a (omega arith));
+  }
 
 -- the leaf at p keeps its own number at last
 pub topped :

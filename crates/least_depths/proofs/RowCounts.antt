@@ -4,6 +4,7 @@ use mathlib.Core.Path.{_≡_, ap, sym, _∙_}
 use mathlib.Core.Logic.{_⊎_, inl, inr, _≢_}
 use mathlib.Core.List.{List}
 use Prim.Native.Nat.{ℕ, _+_, _-_, _*_, _/_, _%_, _≤_, _<_}
+use native.Mathlib.Nat.{div-lt-iff-lt-mul, mod-lt}
 use native.Mathlib.Omega.{arith}
 use native.Mathlib.Decide.{ℕ-discrete}
 use lib.ListN.{length}
@@ -20,9 +21,13 @@ use Rattle.leaf_orders.specs.inner.Orders.{most-sum, whole, at, IsPlan}
 use Rattle.leaf_orders.proofs.LeafOrders.{place-in, leaf-at}
 use Rattle.leaf_orders.proofs.Planned as planned
 use Rattle.leaf_orders.proofs.Rows.{pairs-small}
-use Rattle.least_depths.specs.inner.Depths.{LeafOrder, LeastDepths, count-in, RowFound}
-use Rattle.least_depths.specs.inner.Rows.{TableRowFits}
+use Rattle.least_depths.specs.inner.Depths.{LeafOrder, LeastDepths, TopsFrom, count-in, RowFound}
+use Rattle.least_depths.specs.inner.Rows.{TableRowFits, RowsHold}
 use Rattle.least_depths.proofs.Meeting.{Meets, meets}
+
+-- the cells of the table, one after the other
+abbrev pub cell-at : (n : ℕ) (l : List ℕ) → ℕ → ℕ
+cell-at n l k = quartets n (tree-of n l) (k / n) (k % n)
 
 module _ (n : ℕ) (l : List ℕ) (count : IsLeafCount n) (keeps : KeepsRules n l) where
   -- the tree under leaf 0, and with leaf 0 put on
@@ -79,6 +84,25 @@ module _ (n : ℕ) (l : List ℕ) (count : IsLeafCount n) (keeps : KeepsRules n 
         → LeafOrder n order × (i < n) × (at places i < n) × (at aboves i ≤ most-sum) × (length tops ≡ most-leaves)
     row-asked {i} tops li long = (leaf-order, li, place-below i li, above-small i li, long)
 
+    -- the rows of the leaves at all places are all rows
+    pub all-rows :
+        {f : ℕ → ℕ} {cells : List ℕ} {m : ℕ} → m ≡ n → RowsHold n order f cells m → (k : ℕ) → k < n * n
+        → at cells k ≡ f k
+    all-rows e h k l =
+        let i = k / n in
+        let some : 0 < n = omega (arith, count .0) in
+        let li : i < n = div-lt-iff-lt-mul some .1 l in
+        h .right k (at places i) (omega (arith, place-below i li)) (sym (p .placed i li))
+
+    -- what `next_row` asks at place s
+    pub next-asked :
+        {s : ℕ} (tops : List ℕ) → s < n → length tops ≡ most-leaves
+        → (0 < s → TopsFrom n aboves order depths (s - 1) tops)
+        → LeafOrder n order × (s < n) × (at aboves (at order s) ≤ most-sum) × (length tops ≡ most-leaves)
+        × (0 < s → TopsFrom n aboves order depths (s - 1) tops)
+    next-asked {s} tops ls long last =
+        (leaf-order, ls, above-small (at order s) (leaf-order .below s ls), long, last)
+
     -- the counts of row i
     module _ {i base : ℕ} {tops : List ℕ} (li : i < n) (eb : base ≡ at aboves i)
         (t : LeastDepths n order depths (at places i) (whole - (base + base)) tops) where
@@ -124,3 +148,24 @@ module _ (n : ℕ) (l : List ℕ) (count : IsLeafCount n) (keeps : KeepsRules n 
       -- what the functions that write the row ask
       pub row-fits : {room : ℕ} → n * n ≤ room → TableRowFits n i base aboves tops room
       row-fits enough = record { few = count .1; row = li; enough = enough; found = row-found }
+
+    -- the row of the leaf at place s, as `next_row` finds it
+    module _ {s base : ℕ} {tops : List ℕ} (ls : s < n)
+        (found : (base ≡ at aboves (at order s)) × TopsFrom n aboves order depths s tops) where
+      abbrev i : ℕ
+      i = at order s
+
+      li : i < n
+      li = leaf-order .below s ls
+
+      least : LeastDepths n order depths (at places i) (whole - (base + base)) tops
+      least =
+          let r = leaf-there s ls in
+          let there : at places i ≡ s = rw (r .3) (r .2) in
+          rw (there, found .0) (found .1)
+
+      pub next-fits : {room : ℕ} → n * n ≤ room → TableRowFits n i base aboves tops room
+      next-fits enough = row-fits li (found .0) least enough
+
+      pub next-cells : (k : ℕ) → k / n ≡ i → cell-at n l k ≡ count-in base aboves tops (k % n)
+      next-cells k e = rw e (omega (arith, row-counts li (found .0) least (k % n) (mod-lt k (omega arith))))

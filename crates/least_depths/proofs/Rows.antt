@@ -1,10 +1,11 @@
 -- A row of a tree's table as it is written, or taken from another: where its cells stand, what their counts ask, and
--- one cell more of it.
+-- one cell more of it; and one row more of the rows in the order of the places.
 use mathlib.Core.Path.{_≡_, refl, sym, _∙_}
 use mathlib.Core.List.{List}
-use Prim.Native.Nat.{ℕ, _+_, _*_, _≤_, _<_}
+use Prim.Native.Nat.{ℕ, _+_, _*_, _/_, _≤_, _<_}
 use native.Mathlib.Nat.{add-zero}
 use native.Mathlib.Omega.{arith}
+use native.Mathlib.Decide.{ℕ-discrete}
 use lib.ListN.{length, set, length-set}
 use Rattle.base.proofs.Lists.{place}
 use Rattle.base.proofs.Filling.{cell-more}
@@ -12,7 +13,7 @@ use Rattle.limits.specs.Limits.{most-leaves, most-cells}
 use Rattle.limits.proofs.TablePlaces.{place-small}
 use Rattle.leaf_orders.specs.inner.Orders.{whole, at}
 use Rattle.least_depths.specs.inner.Depths.{most-depth}
-use Rattle.least_depths.specs.inner.Rows.{TableRowFits, RowWritten}
+use Rattle.least_depths.specs.inner.Rows.{TableRowFits, RowWritten, RowsHold}
 
 module _ {n i base room : ℕ} {aboves tops : List ℕ} (fit : TableRowFits n i base aboves tops room) (j : ℕ)
     (l : j < n) where
@@ -41,3 +42,18 @@ module _ {A : Type 0} {n i : ℕ} {value : ℕ → A} where
   pub row-whole :
       {before out : List A} {j : ℕ} → j ≡ n → RowWritten n i value before out j → RowWritten n i value before out n
   row-whole e w = rw e at w
+
+-- no row, and one more
+module _ {n : ℕ} {order cells : List ℕ} {f : ℕ → ℕ} where
+  pub rows-none : RowsHold n order f cells 0
+  rows-none = record { right = λ k q l e. absurd (omega arith) }
+
+  pub rows-more :
+      {p : ℕ} → RowsHold n order f cells p → ((k : ℕ) → k / n ≡ at order p → at cells k ≡ f k)
+      → RowsHold n order f cells (p + 1)
+  rows-more {p = p} old new = record {
+    right = λ k q l e. elim (ℕ-discrete q p) [
+      | yes s ↦ new k (rw s at e)
+      | no d ↦ old .right k q (omega arith) e
+    ];
+  }

@@ -1,7 +1,7 @@
-// The count table of a tree, written row by row.
+// The count table of a tree, written row by row, in the order of the places of the leaves.
 use leaf_orders::leaf_order;
 use least_depths::count_at;
-use least_depths::find_row;
+use least_depths::next_row;
 use limits::MOST_LEAVES;
 use limits::MOST_NODES;
 use refusals::Outcome;
@@ -14,10 +14,11 @@ ghost use Rattle.refusals.specs.Refusals.{outcome, written};
 ghost use Rattle.trees.specs.Listings.{KeepsRules, tree-of};
 ghost use Rattle.trees.specs.Tables.{table-of};
 ghost use Rattle.least_depths.specs.inner.Depths.{count-in};
-ghost use Rattle.least_depths.specs.inner.Rows.{TableRowFits, RowWritten};
+ghost use Rattle.least_depths.specs.inner.Rows.{TableRowFits};
 ghost use Rattle.tree_tables.specs.Operations.{table-answer};
+ghost use Rattle.tree_tables.specs.inner.Rows.{RowPut};
 
-// Row i of the table, where the rows before it are written.
+// Row i of the table.
 fn write_row(
     n: usize,
     i: usize,
@@ -27,12 +28,13 @@ fn write_row(
     out: &mut [u32],
 )
     requires { ⌜ TableRowFits n i base (now aboves) (now tops) (length (now out)) ⌝ }
-    ensures { λ _. ⌜ RowWritten n i (λ j. count-in base (now (aboves .entry)) (now (tops .entry)) j)
+    ensures { λ _. ⌜ RowPut n i (λ j. count-in base (now (aboves .entry)) (now (tops .entry)) j)
         (now (out .entry)) (now (out .exit)) n ⌝ }
 {
+    let start = i * n;
     let mut j: usize = 0;
     while j < n {
-        out[i * n + j] = count_at(base, aboves, tops, j);
+        out[start + j] = count_at(base, aboves, tops, j);
         j += 1;
     }
 }
@@ -49,9 +51,9 @@ pub fn fill_table(n: usize, listing: &[u16], out: &mut [u32])
     let mut depth = [0u32; MOST_LEAVES];
     let mut tops = [0u32; MOST_LEAVES];
     leaf_order(n, listing, &mut places, &mut aboves, &mut order, &mut depth);
-    for i in 0..n {
-        let base = find_row(n, &places, &aboves, &order, &depth, i, &mut tops);
-        write_row(n, i, base, &aboves, &tops, out);
+    for p in 0..n {
+        let base = next_row(n, &aboves, &order, &depth, p, &mut tops);
+        write_row(n, order[p], base, &aboves, &tops, out);
     }
 }
 

@@ -39,7 +39,7 @@ loop-again c =
     let next =
     before-more (a .n) (a .order .now) (a .depths .now) (i .tops) _ (a .p) (i .t) (i .low) (c .keep-least .result)
     (s .pre .0) (i .inv .1) (r .0) (r .1) (r .2) (omega arith) (i .inv .0) (s .pre .1) (i .inv .2) (i .inv .3) (r .3) in
-    (omega arith, next .0, next .1, next .2, λ t l m. next .3 t l m ∙ i .inv .4 t l m)
+    (omega arith, next .0, next .1, next .2, λ t l m. next .3 t m (omega arith) ∙ i .inv .4 t l m)
 
 returns : tie.Need-returns Inv-loop μ-loop
 returns c = let i = c .before .loop in (i .inv .1, λ s a. i .inv .3 s (omega arith) a, i .inv .4)

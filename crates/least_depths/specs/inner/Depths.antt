@@ -21,12 +21,24 @@ pub record LeastBetween (depths : List ℕ) (lo hi m : ℕ) : Type 0 where
   pub bound : (t : ℕ) → lo < t → t ≤ hi → m ≤ at depths t
   pub greatest : (z : ℕ) → z ≤ most-depth → ((t : ℕ) → lo < t → t ≤ hi → z ≤ at depths t) → z ≤ m
 
+-- the least depth between place p and each place after it that comes before m, and each before it from m on
+abbrev pub After : (order depths : List ℕ) (p : ℕ) (tops : List ℕ) (m : ℕ) → Type 0
+After order depths p tops m = (s : ℕ) → p < s → s < m → LeastBetween depths p s (at tops (at order s))
+
+abbrev pub Before : (order depths : List ℕ) (p : ℕ) (tops : List ℕ) (m : ℕ) → Type 0
+Before order depths p tops m = (s : ℕ) → m ≤ s → s < p → LeastBetween depths s p (at tops (at order s))
+
 -- the least depth between place p and that of each other leaf; `own` for the leaf at p
 pub record LeastDepths (n : ℕ) (order depths : List ℕ) (p own : ℕ) (tops : List ℕ) : Type 0 where
   pub long : length tops ≡ most-leaves
   pub here : at tops (at order p) ≡ own
   pub after : (s : ℕ) → p < s → s < n → LeastBetween depths p s (at tops (at order s))
   pub before : (s : ℕ) → s < p → LeastBetween depths s p (at tops (at order s))
+
+-- the least depths from place p; the leaf there keeps what makes its own count 0
+abbrev pub TopsFrom : (n : ℕ) (aboves order depths : List ℕ) (p : ℕ) (tops : List ℕ) → Type 0
+TopsFrom n aboves order depths p tops =
+    LeastDepths n order depths p (whole - (at aboves (at order p) + at aboves (at order p))) tops
 
 -- the count of the cell in column j: `base` is what branches off above the row's leaf
 abbrev pub count-in : (base : ℕ) (aboves tops : List ℕ) → ℕ → ℕ

@@ -1,33 +1,24 @@
--- `tree_tables::fill_table` meets its contract: the rows before i are written.
+-- `tree_tables::fill_table` meets its contract: the rows of the leaves at the places before p are written.
 use mathlib.Core.Path.{_≡_, refl}
-use mathlib.Core.List.{List}
-use Prim.Native.Nat.{ℕ, _-_, _*_, _/_, _%_, _≤_}
+use Prim.Native.Nat.{_+_, _-_, _≤_, _<_}
 use native.Mathlib.Omega.{arith}
 use borrow.Author.Needs.{needs}
 use lib.ListN.{length}
-use Rattle.base.specs.Lists.{filled}
-use Rattle.base.proofs.Filling.{rows-none, rows-room, rows-more, rows-all}
 use Rattle.limits.specs.Limits.{most-leaves}
-use Rattle.trees.specs.Listings.{tree-of}
-use Rattle.trees.specs.Quartets.{quartets}
 use Rattle.trees.specs.Tables.{table-of}
-use Rattle.least_depths.proofs.RowCounts.{row-asked, cell-is, row-fits}
+use Rattle.least_depths.specs.inner.Depths.{TopsFrom}
+use Rattle.least_depths.proofs.RowCounts.{cell-at, leaf-order, next-asked, next-fits, next-cells, all-rows}
+use Rattle.tree_tables.proofs.Rows.{RowsPut, rows-begun, row-put, rows-whole}
 use Rattle.tree_tables.proofs.fill_table.Statement.{statement}
 use Rattle.tree_tables.proofs.fill_table.Tie as tie
 
--- the cells of the table, one after the other
-abbrev cell-at : ℕ → List ℕ → ℕ → ℕ
-cell-at n l k = quartets n (tree-of n l) (k / n) (k % n)
-
 abbrev Inv-loop : tie.InvT-loop
-Inv-loop n listing out₀ places aboves order depths tops₀ i₀ out tops i =
-    (i ≤ n) × (length tops ≡ most-leaves) × (out ≡ filled (i * n) (cell-at n listing) out₀)
+Inv-loop n listing out₀ aboves order depths tops₀ p₀ out tops p =
+    (p ≤ n) × (length tops ≡ most-leaves) × (0 < p → TopsFrom n aboves order depths (p - 1) tops)
+    × RowsPut n order (cell-at n listing) out₀ out p
 
 abbrev μ-loop : tie.MeasureT-loop
-μ-loop n listing out₀ places aboves order depths tops₀ i₀ out tops i = n - i
-
-abbrev f : tie.Start Inv-loop μ-loop → ℕ → ℕ
-f s = cell-at (s .args .n) (s .args .listing .now)
+μ-loop n listing out₀ aboves order depths tops₀ p₀ out tops p = n - p
 
 leaf-order-requires : tie.Need-leaf-order-requires Inv-loop μ-loop
 leaf-order-requires c κs =
@@ -35,53 +26,54 @@ leaf-order-requires c κs =
     (p .0, p .1, refl, refl, refl, refl)
 
 loop-holds : tie.Need-loop-holds Inv-loop μ-loop
-loop-holds c =
-    let s = c .before .before .before .before .before .before .before in
-    (omega arith, refl, rows-none (f s) _ _)
+loop-holds c = (omega arith, refl, λ l. absurd (omega arith), rows-begun)
 
-find-row-requires : tie.Need-find-row-requires Inv-loop μ-loop
-find-row-requires c κs =
-    let i = c .before .before .before .before .before .before .loop in
-    let made = c .before .before .before .before .before .before .before in
-    let p = made .before .before .before .before .before .before .before .pre in
-    row-asked _ _ (p .0) (p .1) (made .leaf-order .ensures) (i .tops) (omega arith) (i .inv .1)
+next-row-requires : tie.Need-next-row-requires Inv-loop μ-loop
+next-row-requires c κs =
+    let tested = c .before .before .before .before in
+    let i = tested .before .loop in
+    let made = tested .before .before in
+    let s = made .before .before .before .before .before .before .before in
+    next-asked _ _ (s .pre .0) (s .pre .1) (made .leaf-order .ensures) (i .tops) (omega arith) (i .inv .1) (i .inv .2)
 
 write-row-requires : tie.Need-write-row-requires Inv-loop μ-loop
 write-row-requires c κs =
-    let found = c .before .before .before .find-row .ensures in
-    let tested = c .before .before .before .before .before .before .before .before .before in
+    let found = c .before .before .before .next-row .ensures in
+    let tested = c .before .before .before .before .before .before .before .before in
     let i = tested .before .loop in
     let made = tested .before .before in
     let s = made .before .before .before .before .before .before .before in
-    let long = rows-room (f s) _ (s .args .n) (i .i) (i .inv .0) (s .pre .2) (i .inv .2) in
-    row-fits _ _ (s .pre .0) (s .pre .1) (made .leaf-order .ensures) (tested .loop-test .taken) (found .0) (found .1)
-    (omega (arith, s .pre .2, long))
+    next-fits _ _ (s .pre .0) (s .pre .1) (made .leaf-order .ensures) (tested .loop-test .taken) found
+    (omega (arith, s .pre .2, i .inv .3 .same-length))
 
 loop-again : tie.Need-loop-again Inv-loop μ-loop
 loop-again c =
-    let found = c .before .before .before .before .before .before .find-row .ensures in
-    let tested = c .before .before .before .before .before .before .before .before .before .before .before .before in
+    let found = c .before .before .before .before .before .before .next-row .ensures in
+    let tested = c .before .before .before .before .before .before .before .before .before .before .before in
     let i = tested .before .loop in
     let made = tested .before .before in
     let s = made .before .before .before .before .before .before .before in
-    let cell =
-    cell-is _ _ (s .pre .0) (s .pre .1) (made .leaf-order .ensures) (tested .loop-test .taken) (found .0)
-    (found .1) in
-    let more = c .before .before .write-row .ensures .cells (f s) _ cell (i .inv .2) in
-    (omega arith, found .1 .long, rows-more (f s) _ (s .args .n) (i .i) more)
+    let plan = made .leaf-order .ensures in
+    let inside = tested .loop-test .taken in
+    let cell = next-cells _ _ (s .pre .0) (s .pre .1) plan inside found in
+    let this : i .p + 1 - 1 ≡ i .p = omega arith in (
+      omega arith,
+      found .1 .long,
+      λ l. rw this (found .1),
+      row-put (leaf-order _ _ (s .pre .0) (s .pre .1) plan) inside cell (i .inv .3) (c .before .before .write-row .ensures),
+    )
 
 same-length : tie.Need-same-length Inv-loop μ-loop
-same-length c =
-    let s = c .before .before .before .before .before .before .before .before .before in
-    let i = c .before .loop in
-    rows-room (f s) _ (s .args .n) (i .i) (i .inv .0) (s .pre .2) (i .inv .2)
+same-length c = c .before .loop .inv .3 .same-length
 
 returns : tie.Need-returns Inv-loop μ-loop
 unfolding table-of
 returns c =
-    let s = c .before .before .before .before .before .before .before .before .before in
     let i = c .before .loop in
-    rows-all (f s) _ (s .args .n) (i .i) (omega arith) (i .inv .2)
+    let made = c .before .before in
+    let s = made .before .before .before .before .before .before .before in
+    rows-whole (s .pre .2)
+    (all-rows _ _ (s .pre .0) (s .pre .1) (made .leaf-order .ensures) (omega arith) (i .inv .3 .put)) (i .inv .3)
 
 pub fill-table-spec : {M : Type 1} → statement M
 fill-table-spec =
@@ -91,7 +83,8 @@ fill-table-spec =
     μ-loop
     leaf-order-requires
     loop-holds
-    find-row-requires
+    next-row-requires
+    (λ c. search needs) (λ c. search needs)
     write-row-requires
     (λ c. search needs) (λ c. search needs)
     loop-again

@@ -1,20 +1,21 @@
--- `tree_tables::write_row` meets its contract: the rows before i and j cells of row i are written.
+-- `tree_tables::write_row` meets its contract: j cells of row i are written, and no other row.
 use Prim.Native.Nat.{_+_, _-_, _*_, _≤_, _<_}
 use native.Mathlib.Omega.{arith}
 use borrow.Author.Needs.{needs}
 use lib.ListN.{length}
 use Rattle.limits.specs.Limits.{most-cells}
 use Rattle.least_depths.specs.inner.Depths.{count-in}
-use Rattle.least_depths.specs.inner.Rows.{RowWritten}
-use Rattle.least_depths.proofs.Rows.{cell-place, count-asked, row-begun, row-more, row-whole}
+use Rattle.least_depths.proofs.Rows.{cell-place, count-asked}
+use Rattle.tree_tables.specs.inner.Rows.{RowPut}
+use Rattle.tree_tables.proofs.Rows.{row-begun, row-more, row-whole}
 use Rattle.tree_tables.proofs.write_row.Statement.{statement}
 use Rattle.tree_tables.proofs.write_row.Tie as tie
 
 abbrev Inv-loop : tie.InvT-loop
-Inv-loop n i base aboves tops out₀ j₀ out j = (j ≤ n) × RowWritten n i (λ k. count-in base aboves tops k) out₀ out j
+Inv-loop n i base aboves tops out₀ start j₀ out j = (j ≤ n) × RowPut n i (λ k. count-in base aboves tops k) out₀ out j
 
 abbrev μ-loop : tie.MeasureT-loop
-μ-loop n i base aboves tops out₀ j₀ out j = n - j
+μ-loop n i base aboves tops out₀ start j₀ out j = n - j
 
 -- the place of the next cell
 here :
@@ -24,20 +25,20 @@ here :
     (a .i * a .n + b .loop .j < most-cells) × (a .i * a .n + b .loop .j < length (a .out .now)))
 here c = cell-place (c .before .before .before .before .pre) (c .before .before .loop .j) (omega arith)
 
+mul-start : tie.Need-mul-start Inv-loop μ-loop
+mul-start c = let fit = c .before .pre in omega (arith, cell-place fit 0 (omega (arith, fit .row)) .0)
+
 loop-holds : tie.Need-loop-holds Inv-loop μ-loop
 loop-holds c = (search needs, row-begun)
 
 count-at-requires : tie.Need-count-at-requires Inv-loop μ-loop
 count-at-requires c κs = count-asked (c .before .before .before .pre) (c .before .loop .j) (omega arith)
 
-mul-out : tie.Need-mul-out Inv-loop μ-loop
-mul-out c = omega (arith, here c .0)
-
 add-out : tie.Need-add-out Inv-loop μ-loop
 add-out c = omega (arith, here c .0)
 
-mul-out-2 : tie.Need-mul-out-2 Inv-loop μ-loop
-mul-out-2 c = omega (arith, here c .0)
+mul-out : tie.Need-mul-out Inv-loop μ-loop
+mul-out c = omega (arith, here c .0)
 
 slice-write-out : tie.Need-slice-write-out Inv-loop μ-loop
 slice-write-out c = omega (arith, here c .1, c .before .before .loop .inv .1 .same-length)
@@ -56,11 +57,11 @@ write-row-spec =
     (tie.spec
     Inv-loop
     μ-loop
+    mul-start
     loop-holds
     count-at-requires
-    mul-out
     add-out
-    mul-out-2
+    mul-out
     slice-write-out
     (λ c. search needs) (λ c. search needs)
     loop-again
