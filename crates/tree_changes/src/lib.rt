@@ -1,6 +1,7 @@
 // The operations that change a tree and keep its table beside it: graft and prune.
 use change_answers::Change;
 use limits::Kind;
+use own_tables::is_own_table;
 use refusals::Outcome;
 use refusals::Refusal;
 use tree_records::Origin;
@@ -80,14 +81,6 @@ fn judge_sizes(
         return Outcome::Refused(Refusal::OutputRoom);
     }
     Outcome::Done
-}
-
-// STUB
-fn is_own_table(n: usize, listing: &[u16], cells: &[u32]) -> bool
-    requires { ⌜ IsLeafCount n × KeepsRules n (now listing) × (length (now cells) ≡ n * n) ⌝ }
-    ensures { λ r. ⌜ r ≡ is-own-table n (now (cells .entry)) (tree-of n (now (listing .entry))) ⌝ }
-{
-    false
 }
 
 // Whether what is named is there, and the table is the tree's own.
