@@ -1,8 +1,8 @@
--- `tree_changes::fits` meets its contract.
+-- `change_checks::fits` meets its contract.
 use borrow.Author.Needs.{needs}
 use borrow.Author.Tests.{not-true, not-false}
-use Rattle.tree_changes.proofs.fits.Statement.{statement}
-use Rattle.tree_changes.proofs.fits.Tie as tie
+use Rattle.change_checks.proofs.fits.Statement.{statement}
+use Rattle.change_checks.proofs.fits.Tie as tie
 
 pub fits-spec : {M : Type 1} → statement M
 fits-spec =

@@ -30,7 +30,7 @@ use Rattle.table_checks.specs.Operations.{table-refusal}
 use Rattle.table_checks.proofs.TableRefusal.{cells-left}
 use Rattle.change_answers.specs.declared.Change.{Change}
 use Rattle.change_answers.specs.Operations.{count-after, is-there, change-refusal}
-use Rattle.tree_changes.specs.inner.Refusals.{change-sizes-refusal, cells-or-own-refusal}
+use Rattle.change_checks.specs.inner.Refusals.{change-sizes-refusal, cells-or-own-refusal}
 
 -- The sizes.
 module _ (n m numbers cells room space : ℕ) where

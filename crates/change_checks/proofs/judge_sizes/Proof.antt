@@ -1,4 +1,4 @@
--- `tree_changes::judge_sizes` meets its contract: each test refuses, or the next one decides.
+-- `change_checks::judge_sizes` meets its contract: each test refuses, or the next one decides.
 use mathlib.Core.Path.{_≡_, sym, _∙_}
 use Prim.Native.Nat.{_-_, _*_, _≤_}
 use native.Mathlib.Omega.{arith}
@@ -6,10 +6,10 @@ use borrow.Author.Needs.{needs}
 use borrow.Author.Tests.{not-true, not-false}
 use Rattle.limits.specs.Limits.{IsLeafCount}
 use Rattle.checks.proofs.Sizes.{is-leaf-count}
-use Rattle.tree_changes.proofs.Refusals.{count-told, numbers-told, cells-told, room-told, space-told}
-use Rattle.tree_changes.proofs.Refusals.{sizes-told}
-use Rattle.tree_changes.proofs.judge_sizes.Statement.{statement}
-use Rattle.tree_changes.proofs.judge_sizes.Tie as tie
+use Rattle.change_checks.proofs.Refusals.{count-told, numbers-told, cells-told, room-told, space-told}
+use Rattle.change_checks.proofs.Refusals.{sizes-told}
+use Rattle.change_checks.proofs.judge_sizes.Statement.{statement}
+use Rattle.change_checks.proofs.judge_sizes.Tie as tie
 
 returns : tie.Need-returns
 returns c = count-told _ _ _ _ _ _ (sym (c .before .leaf-count .ensures) ∙ not-true _ (c .if1 .taken))

@@ -1,4 +1,4 @@
--- `tree_changes::judge` meets its contract: the first leaf count stops it, or the sizes do, or the rules, or the cells
+-- `change_checks::judge` meets its contract: the first leaf count stops it, or the sizes do, or the rules, or the cells
 -- decide and what is named.
 use mathlib.Core.Path.{_≡_, ap, sym, _∙_}
 use mathlib.Core.Option.{none}
@@ -12,11 +12,11 @@ use Rattle.checks.proofs.Sizes.{is-leaf-count}
 use Rattle.trees.specs.Listings.{tree-of}
 use Rattle.listings.specs.Operations.{listing-refusal}
 use Rattle.change_answers.specs.Operations.{count-after}
-use Rattle.tree_changes.specs.inner.Refusals.{change-sizes-refusal, cells-or-own-refusal}
-use Rattle.tree_changes.proofs.Refusals.{first-count-told, sizes-right, sizes-stop, rules-stop, keeps}
-use Rattle.tree_changes.proofs.Refusals.{cells-decide}
-use Rattle.tree_changes.proofs.judge.Statement.{statement}
-use Rattle.tree_changes.proofs.judge.Tie as tie
+use Rattle.change_checks.specs.inner.Refusals.{change-sizes-refusal, cells-or-own-refusal}
+use Rattle.change_checks.proofs.Refusals.{first-count-told, sizes-right, sizes-stop, rules-stop, keeps}
+use Rattle.change_checks.proofs.Refusals.{cells-decide}
+use Rattle.change_checks.proofs.judge.Statement.{statement}
+use Rattle.change_checks.proofs.judge.Tie as tie
 
 returns : tie.Need-returns
 returns c = first-count-told _ _ _ _ _ _ (sym (c .before .leaf-count .ensures) ∙ not-true _ (c .if1 .taken))

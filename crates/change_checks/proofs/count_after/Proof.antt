@@ -1,7 +1,7 @@
--- `tree_changes::count_after` meets its contract: a graft adds a leaf, and a prune takes one away.
+-- `change_checks::count_after` meets its contract: a graft adds a leaf, and a prune takes one away.
 use borrow.Author.Needs.{needs}
-use Rattle.tree_changes.proofs.count_after.Statement.{statement}
-use Rattle.tree_changes.proofs.count_after.Tie as tie
+use Rattle.change_checks.proofs.count_after.Statement.{statement}
+use Rattle.change_checks.proofs.count_after.Tie as tie
 
 pub count-after-spec : {M : Type 1} → statement M
 count-after-spec =

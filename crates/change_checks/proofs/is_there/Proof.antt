@@ -1,7 +1,7 @@
--- `tree_changes::is_there` meets its contract: a graft names an edge, and a prune a leaf.
+-- `change_checks::is_there` meets its contract: a graft names an edge, and a prune a leaf.
 use borrow.Author.Needs.{needs}
-use Rattle.tree_changes.proofs.is_there.Statement.{statement}
-use Rattle.tree_changes.proofs.is_there.Tie as tie
+use Rattle.change_checks.proofs.is_there.Statement.{statement}
+use Rattle.change_checks.proofs.is_there.Tie as tie
 
 pub is-there-spec : {M : Type 1} → statement M
 is-there-spec =

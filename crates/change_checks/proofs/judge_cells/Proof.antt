@@ -1,11 +1,11 @@
--- `tree_changes::judge_cells` meets its contract: a table that fits is not judged further; another is refused by 4 or 5,
+-- `change_checks::judge_cells` meets its contract: a table that fits is not judged further; another is refused by 4 or 5,
 -- or else by 20.
 use mathlib.Core.Path.{sym, _∙_}
 use borrow.Author.Needs.{needs}
 use Rattle.trees.specs.Listings.{tree-of}
-use Rattle.tree_changes.proofs.Refusals.{fit-told, cells-stop, unfit-told}
-use Rattle.tree_changes.proofs.judge_cells.Statement.{statement}
-use Rattle.tree_changes.proofs.judge_cells.Tie as tie
+use Rattle.change_checks.proofs.Refusals.{fit-told, cells-stop, unfit-told}
+use Rattle.change_checks.proofs.judge_cells.Statement.{statement}
+use Rattle.change_checks.proofs.judge_cells.Tie as tie
 
 returns : tie.Need-returns
 returns c =

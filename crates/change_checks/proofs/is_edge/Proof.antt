@@ -1,9 +1,9 @@
--- `tree_changes::is_edge` meets its contract.
+-- `change_checks::is_edge` meets its contract.
 use borrow.Author.Needs.{needs}
 use borrow.Author.Tests.{le-leb, lt-leb}
 use Rattle.grafted_trees.specs.Grafts.{names-edge}
-use Rattle.tree_changes.proofs.is_edge.Statement.{statement}
-use Rattle.tree_changes.proofs.is_edge.Tie as tie
+use Rattle.change_checks.proofs.is_edge.Statement.{statement}
+use Rattle.change_checks.proofs.is_edge.Tie as tie
 
 returns : tie.Need-returns
 unfolding names-edge
