@@ -38,8 +38,8 @@ next-row-requires c κs =
     let s = made .before .before .before .before .before .before .before in
     next-asked _ _ (s .pre .0) (s .pre .1) (made .leaf-order .ensures) (omega arith) (i .inv .1)
 
-count-wrong-requires : tie.Need-count-wrong-requires Inv-loop μ-loop
-count-wrong-requires c κs =
+count-right-requires : tie.Need-count-right-requires Inv-loop μ-loop
+count-right-requires c κs =
     let found = c .before .before .next-row .ensures in
     let tested = c .before .before .before .before .before .before .before in
     let made = tested .before .before in
@@ -47,14 +47,14 @@ count-wrong-requires c κs =
     next-fits _ _ (s .pre .0) (s .pre .1) (made .leaf-order .ensures) (tested .loop-test .taken) found
     (omega (arith, s .pre .2))
 
--- what the count of the wrong cells says of the row, and of the table
+-- what the count of the right cells says of the row, and of the table
 judged :
-    (c : tie.After-count-wrong Inv-loop μ-loop)
+    (c : tie.After-count-right Inv-loop μ-loop)
     → (let tested = c .before .before .before .before .before .before .before .before in
     let made = tested .before .before in
     let a = made .before .before .before .before .before .before .before .args in
     RowJudged (a .n) (at (made .leaf-order .last .1 .1 .1 .1 .0) (tested .before .loop .p))
-    (cell-at (a .n) (a .listing .now)) (a .cells .now) (c .count-wrong .result))
+    (cell-at (a .n) (a .listing .now)) (a .cells .now) (c .count-right .result))
 judged c =
     let found = c .before .before .before .next-row .ensures in
     let tested = c .before .before .before .before .before .before .before .before in
@@ -63,7 +63,7 @@ judged c =
     let plan = made .leaf-order .ensures in
     let inside = tested .loop-test .taken in
     row-judged (leaf-order _ _ (s .pre .0) (s .pre .1) plan .below (tested .before .loop .p) inside)
-    (next-cells _ _ (s .pre .0) (s .pre .1) plan inside found) (c .count-wrong .ensures)
+    (next-cells _ _ (s .pre .0) (s .pre .1) plan inside found) (c .count-right .ensures)
 
 returns : tie.Need-returns Inv-loop μ-loop
 unfolding is-own-table
@@ -73,7 +73,7 @@ loop-again : tie.Need-loop-again Inv-loop μ-loop
 loop-again c =
     let found = c .before .before .before .before .next-row .ensures in
     let i = c .before .before .before .before .before .before .before .before .before .before .loop in
-    (omega arith, tops-more (found .1), rows-more (i .inv .2) (judged (c .before) .none-wrong (c .if1 .left)))
+    (omega arith, tops-more (found .1), rows-more (i .inv .2) (judged (c .before) .all-right (c .if1 .left)))
 
 returns-2 : tie.Need-returns-2 Inv-loop μ-loop
 unfolding is-own-table
@@ -95,7 +95,7 @@ is-own-table-spec =
     loop-holds
     next-row-requires
     (λ c. search needs) (λ c. search needs)
-    count-wrong-requires
+    count-right-requires
     returns
     (λ c. search needs) (λ c. search needs)
     loop-again
