@@ -1,7 +1,8 @@
 /* Measures every call of the part against plain C, and against the floor (its buffers read and written once); the
    rebuilds and the guess also against textbook neighbour joining, the table against counting quartets directly; import
-   also with long texts. Plain C of the table, of a poll, of the guess (plain_guess.c), and of all that judges names
-   (plain_sheets.c), is of another algorithm.
+   also with long texts. Plain C of the table, of a poll, of the guess (plain_guess.c), of graft and prune
+   (plain_graft.c), and of all that judges names (plain_sheets.c), is of another algorithm. Where n leaves are said, a
+   graft makes a tree of n leaves and a prune is given one; the other tree has a leaf less.
    Each figure is a ratio of medians of rounds that take turns in this one run; no bare time is printed. With a file
    name it draws the growth of the calls with the number of leaves there, as an SVG. */
 #define _POSIX_C_SOURCE 200809L
@@ -13,14 +14,17 @@
 #include <string.h>
 #include <time.h>
 
-enum { MOST = 128, ROUNDS = 41, SHAPES = 3, COUNTS = 4, LONG = 1 << 20, TIES = 1 << 19, OFF = 20 };
+enum { MOST = 128, ROUNDS = 41, SHAPES = 3, COUNTS = 4, LONG = 1 << 20, TIES = 1 << 19, OFF = 20, DRAWN = 1 << 10 };
 static const size_t counts[COUNTS] = {16, 32, 64, 128};
 static const char *const shapes[SHAPES] = {"comb", "balanced", "random"};
 static const uint64_t imported = 256 * QUARTREE_IMPORTED; /* an accepted reply with that origin */
+static const uint64_t grafted = 256 * QUARTREE_GRAFTED;
 
 static size_t n;
 static uint16_t listing[2 * MOST], standard[2 * MOST], merges[2 * MOST], joined[2 * MOST], question[4];
 static uint32_t table[MOST * MOST], cells[MOST * MOST], sixths[MOST * MOST], rough[MOST * MOST];
+static uint16_t fewer[2 * MOST], changed[2 * MOST];
+static uint32_t fewer_cells[MOST * MOST], changed_cells[MOST * MOST], drawn[DRAWN];
 static int64_t gaps[MOST * MOST];
 static uint8_t sets[QUARTREE_SET_BYTES * MOST], bytes[4 * MOST], sheet[QUARTREE_SHEET_MOST_BYTES];
 static uint8_t text[QUARTREE_TEXT_BYTES(MOST)], text_out[QUARTREE_TEXT_BYTES(MOST)], long_text[LONG];
@@ -176,6 +180,39 @@ static void guess_alike(uint32_t poll, const uint32_t *of, uint64_t origin)
         fail("plain C guesses another tree");
 }
 
+/* Whether a listing and a table of so many leaves stand where a call leaves its own. */
+static int stand(size_t leaves, const uint16_t *rows, const uint32_t *of)
+{
+    return memcmp(rows, standard, 2 * (leaves - 2) * sizeof *rows) == 0
+           && memcmp(of, table, leaves * leaves * sizeof *of) == 0;
+}
+
+/* Every leaf pruned, and then grafted on every edge of the tree that lacks leaf 0, which both do alike. That tree is
+   left for the grafts, and the edges and leaves are drawn. */
+static void change_alike(void)
+{
+    const size_t less = n - 1, rows = 2 * (n - 2);
+    uint32_t seed = (uint32_t)n;
+    for (size_t leaf = n; leaf-- > 0;)
+        if (quartree_prune(n, listing, rows, cells, n * n, leaf, standard, rows - 2, table, less * less) != grafted
+            || plain_prune(n, listing, cells, leaf, fewer, fewer_cells) != grafted || !stand(less, fewer, fewer_cells))
+            fail("plain C prunes otherwise");
+    for (size_t edge = 1; edge <= QUARTREE_EDGES(less); edge++)
+        if (quartree_graft(less, fewer, rows - 2, fewer_cells, less * less, edge, standard, rows, table, n * n)
+                != grafted
+            || plain_graft(less, fewer, fewer_cells, edge, changed, changed_cells) != grafted
+            || !stand(n, changed, changed_cells))
+            fail("plain C grafts otherwise");
+    for (size_t k = 0; k < DRAWN; k++) {
+        seed = seed * 1664525u + 1013904223u;
+        drawn[k] = seed >> 8;
+    }
+}
+
+/* The next edge of the tree to be grafted on, and the next leaf to be pruned. */
+static size_t next_edge(void) { return 1 + drawn[turn++ % DRAWN] % QUARTREE_EDGES(n - 1); }
+static size_t next_leaf(void) { return drawn[turn++ % DRAWN] % n; }
+
 /* A tree of this shape, and all that the calls take of it; what the part and plain C make of them is the same. */
 static void make(int shape)
 {
@@ -220,6 +257,7 @@ static void make(int shape)
     roughen();
     guess_alike(QUARTREE_COUNTS, rough, QUARTREE_GUESSED);
     guess_alike(QUARTREE_COUNTS, cells, QUARTREE_REBUILT);
+    change_alike();
     sheet_of_table();
     if (quartree_sheet_table(sheet, sheet_len, table, n * n) != 256 * n
         || memcmp(table, cells, n * n * sizeof *cells) != 0)
@@ -340,6 +378,28 @@ static void guess(void) { sink += quartree_guess(n, QUARTREE_COUNTS, rough, n * 
 static void guess_plain(void) { sink += plain_guess(n, 1, rough, standard); }
 static void guess_floor(void) { floor_of(rough, n * n * sizeof *rough, standard, 4 * (n - 2)); }
 static void guess_exact(void) { sink += quartree_guess(n, QUARTREE_COUNTS, cells, n * n, standard, 2 * (n - 2)); }
+static void graft(void)
+{
+    const size_t less = n - 1;
+    sink += quartree_graft(less, fewer, 2 * (less - 2), fewer_cells, less * less, next_edge(), changed, 2 * (n - 2),
+                           changed_cells, n * n);
+}
+static void graft_plain(void)
+{
+    sink += (uint64_t)plain_check(n - 1, fewer);
+    sink += plain_graft(n - 1, fewer, fewer_cells, next_edge(), changed, changed_cells);
+}
+static void prune(void)
+{
+    sink += quartree_prune(n, listing, 2 * (n - 2), cells, n * n, next_leaf(), changed, 2 * (n - 3), changed_cells,
+                           (n - 1) * (n - 1));
+}
+static void prune_plain(void)
+{
+    check_plain();
+    sink += plain_prune(n, listing, cells, next_leaf(), changed, changed_cells);
+}
+static void change_floor(void) { floor_of(cells, n * n * sizeof *cells, changed_cells, n * n * sizeof *cells); }
 static void poll(void) { sink += quartree_poll(n, records, QUARTREE_POLL_RECORDS(n), table, n * n); }
 static void poll_plain(void) { sink += (uint64_t)plain_poll(n, &records[0].a, table); }
 static void poll_ties(void) { sink += quartree_poll(n, next_ties(), QUARTREE_POLL_RECORDS(n), table, n * n); }
@@ -388,7 +448,7 @@ static void join_of(const uint32_t *of)
 static void joining(void) { join_of(cells); }
 static void joining_rough(void) { join_of(rough); }
 
-enum { CALLS = 19 };
+enum { CALLS = 21 };
 static const struct {
     const char *name;
     size_t most; /* leaves */
@@ -405,6 +465,8 @@ static const struct {
     {"rebuild", 128, 40, rebuild, rebuild_plain, rebuild_floor},
     {"guided", 128, 40, guided, guided_plain, rebuild_floor},
     {"guess", 128, 8, guess, guess_plain, guess_floor},
+    {"graft", 128, 40, graft, graft_plain, change_floor},
+    {"prune", 128, 40, prune, prune_plain, change_floor},
     {"poll", 32, 20, poll, poll_plain, poll_floor},
     {"poll_ties", 32, 20, poll_ties, poll_ties_plain, poll_floor},
     {"rebuild_poll", 32, 40, rebuild_poll, rebuild_poll_plain, rebuild_floor},
@@ -688,9 +750,10 @@ static void print_guesses(void)
 
 static void draw(const char *path, double grown[CALLS][COUNTS])
 {
-    static const char *const colours[] = {"#1b6ca8", "#c0392b", "#2e8b57", "#8e44ad", "#7f8c1f", "#d68910",
-                                          "#34495e"};
-    static const int drawn[] = {1, 5, 7, 8, 9, 14, 16}; /* standardise, table, both rebuilds, guess, and of a sheet */
+    static const char *const colours[] = {"#1b6ca8", "#c0392b", "#2e8b57", "#8e44ad", "#7f8c1f", "#d81b60",
+                                          "#00897b", "#d68910", "#34495e"};
+    /* standardise, table, both rebuilds, guess, graft, prune, and of a sheet */
+    static const int lines[] = {1, 5, 7, 8, 9, 10, 11, 16, 18};
     FILE *f = fopen(path, "w");
     if (f == NULL)
         fail("the plot cannot be written");
@@ -704,12 +767,12 @@ static void draw(const char *path, double grown[CALLS][COUNTS])
                    "text-anchor=\"end\">%d</text>\n", 350 - 40 * e, 350 - 40 * e, 354 - 40 * e, 1 << e);
     fprintf(f, "<text x=\"60\" y=\"20\">time over that at 16 leaves; dashed: n squared</text>\n"
                "<line x1=\"60\" y1=\"350\" x2=\"420\" y2=\"110\" stroke=\"#888\" stroke-dasharray=\"5 4\"/>\n");
-    for (size_t d = 0; d < sizeof drawn / sizeof *drawn; d++) {
+    for (size_t d = 0; d < sizeof lines / sizeof *lines; d++) {
         fprintf(f, "<polyline fill=\"none\" stroke=\"%s\" stroke-width=\"2\" points=\"", colours[d]);
         for (int c = 0; c < COUNTS; c++)
-            fprintf(f, "%d,%.1f ", 60 + 120 * c, 350 - 40 * log2(grown[drawn[d]][c]));
+            fprintf(f, "%d,%.1f ", 60 + 120 * c, 350 - 40 * log2(grown[lines[d]][c]));
         fprintf(f, "\"/>\n<rect x=\"436\" y=\"%zu\" width=\"12\" height=\"3\" fill=\"%s\"/><text x=\"454\" y=\"%zu\">%s"
-                   "</text>\n", 56 + 20 * d, colours[d], 62 + 20 * d, calls[drawn[d]].name);
+                   "</text>\n", 56 + 20 * d, colours[d], 62 + 20 * d, calls[lines[d]].name);
     }
     fprintf(f, "</svg>\n");
     fclose(f);

@@ -162,8 +162,7 @@ void direct_table(size_t n, const uint16_t *listing, uint32_t *out)
         }
 }
 
-/* 4 or 5, or 0. */
-static int wrong_table(size_t n, const uint32_t *table)
+int plain_wrong_table(size_t n, const uint32_t *table)
 {
     for (size_t i = 0; i < n; i++)
         if (table[i * n + i] != 0)
@@ -178,7 +177,7 @@ static int wrong_table(size_t n, const uint32_t *table)
 int plain_gap(size_t n, uint32_t times, const uint32_t *table, const uint16_t *listing, int64_t *out)
 {
     uint32_t own[MOST * MOST];
-    int wrong = wrong_table(n, table);
+    int wrong = plain_wrong_table(n, table);
     if (wrong)
         return wrong;
     plain_table(n, listing, own);
@@ -246,7 +245,7 @@ static void single_leaves(size_t n, uint32_t times, forest *f)
 
 int plain_rebuild(size_t n, uint32_t times, const uint32_t *table, uint16_t *out)
 {
-    int wrong = wrong_table(n, table);
+    int wrong = plain_wrong_table(n, table);
     if (wrong)
         return wrong;
     forest f;
@@ -274,7 +273,7 @@ int plain_rebuild(size_t n, uint32_t times, const uint32_t *table, uint16_t *out
 
 int plain_guided(size_t n, uint32_t times, const uint32_t *table, const uint16_t *merges, uint16_t *out)
 {
-    int wrong = wrong_table(n, table);
+    int wrong = plain_wrong_table(n, table);
     if (wrong)
         return wrong;
     forest f;

@@ -15,6 +15,8 @@ uint64_t plain_restandardise(size_t n, uint32_t origin, const uint16_t *listing,
 void plain_table(size_t n, const uint16_t *listing, uint32_t *out);
 /* The table, by counting quartets edge by edge. */
 void direct_table(size_t n, const uint16_t *listing, uint32_t *out);
+/* 4 or 5 as the rules of a table have it, or 0. */
+int plain_wrong_table(size_t n, const uint32_t *table);
 /* The gap of a table in which a tree's cell counts so many times: checks 4 and 5, then the table's cells less those.
    0, 4 or 5. */
 int plain_gap(size_t n, uint32_t times, const uint32_t *table, const uint16_t *listing, int64_t *out);
@@ -26,6 +28,13 @@ int plain_guided(size_t n, uint32_t times, const uint32_t *table, const uint16_t
    least mean sizes of gap (plain_guess.c), which it looks for by bounds. The reply is the part's, 4 or 5 without a
    figure. */
 uint64_t plain_guess(size_t n, uint32_t times, const uint32_t *table, uint16_t *out);
+/* Leaf n grafted on an edge, and a leaf pruned (plain_graft.c): checks 4, 5 and 20, then the standard listing and the
+   table of the changed tree, n * n, by the fastest count that was found. The reply is the part's, 4 and 5 without a
+   figure. */
+uint64_t plain_graft(size_t n, const uint16_t *listing, const uint32_t *table, size_t edge, uint16_t *out,
+                     uint32_t *out_table);
+uint64_t plain_prune(size_t n, const uint16_t *listing, const uint32_t *table, size_t leaf, uint16_t *out,
+                     uint32_t *out_table);
 /* The splits, sixteen bytes each. */
 void plain_splits(size_t n, const uint16_t *listing, uint8_t *out);
 /* 0, 1 or 2: how the tree pairs the four leaves. */

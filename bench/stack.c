@@ -2,7 +2,8 @@
 
    A call runs on a thread whose stack was filled with a pattern, and the bytes that have lost it are counted, less
    those of a thread that calls nothing. Every call is made with trees of several shapes, and with every fault that it
-   can be refused for; what is printed is the most that it took. A poll and its table have 32 leaves. */
+   can be refused for; what is printed is the most that it took. A poll and its table have 32 leaves, and a tree that is
+   grafted on has one leaf less than the most. */
 #define _POSIX_C_SOURCE 200809L
 #include "../include/quartree.h"
 #include <pthread.h>
@@ -10,17 +11,20 @@
 #include <stdlib.h>
 #include <string.h>
 
-enum { N = QUARTREE_MOST_LEAVES, POLL = QUARTREE_POLL_MOST_LEAVES, STACK = 1 << 20, PATTERN = 0xA5 };
+enum { N = QUARTREE_MOST_LEAVES, FEWER = N - 1, POLL = QUARTREE_POLL_MOST_LEAVES, STACK = 1 << 20, PATTERN = 0xA5 };
 
 static uint16_t listing[QUARTREE_LISTING_NUMBERS(N)], standard[QUARTREE_LISTING_NUMBERS(N)];
 static uint16_t merges[QUARTREE_MERGE_NUMBERS(N)], question[4];
 static uint32_t own_table[N * N], table[N * N], table_out[N * N], sums[POLL * POLL];
+static uint16_t fewer_listing[QUARTREE_LISTING_NUMBERS(FEWER)];
+static uint32_t fewer_table[FEWER * FEWER];
 static int64_t gaps[N * N];
 static uint8_t sets[QUARTREE_SPLIT_BYTES(N)], bytes[QUARTREE_LISTING_BYTES(N)], sheet[QUARTREE_SHEET_MOST_BYTES + 1];
 static uint8_t text[QUARTREE_TEXT_BYTES(N)], text_out[QUARTREE_TEXT_BYTES(N)];
 static struct quartree_record records[QUARTREE_POLL_RECORDS(POLL)];
 static uint16_t comb[QUARTREE_LISTING_NUMBERS(POLL)], comb_merges[QUARTREE_MERGE_NUMBERS(POLL)];
-static size_t leaves, poll_leaves, numbers, cells, room, sheet_len, names_len, text_len, leaf;
+static size_t leaves, poll_leaves, fewer_leaves, numbers, cells, fewer_numbers, fewer_cells, room, sheet_len, names_len;
+static size_t text_len, leaf, edge;
 static uint64_t reply;
 
 /* ---- The calls --------------------------------------------------------------------------------------------------- */
@@ -59,6 +63,18 @@ static void guided(void)
     reply = quartree_rebuild_guided(leaves, QUARTREE_COUNTS, table, cells, merges, QUARTREE_MERGE_NUMBERS(N), standard,
                                     of(QUARTREE_LISTING_NUMBERS(N)));
 }
+static void graft(void)
+{
+    reply = quartree_graft(fewer_leaves, fewer_listing, fewer_numbers, fewer_table, fewer_cells, edge, standard,
+                           of(QUARTREE_LISTING_NUMBERS(N)), table_out, of(N * N));
+}
+static void prune_of(size_t pruned)
+{
+    reply = quartree_prune(leaves, listing, numbers, table, cells, pruned, standard,
+                           of(QUARTREE_LISTING_NUMBERS(FEWER)), table_out, of(FEWER * FEWER));
+}
+static void prune(void) { prune_of(leaf); }
+static void prune_first(void) { prune_of(leaf < N ? 0 : leaf); }
 static void poll(void)
 {
     reply = quartree_poll(poll_leaves, records, QUARTREE_POLL_RECORDS(POLL), sums, of(POLL * POLL));
@@ -103,7 +119,8 @@ static const struct {
 } calls[] = {
     {"check", check, 0}, {"standardise", standardise, 0}, {"restandardise", restandardise, 0}, {"splits", splits, 0},
     {"pairing", pairing, 0}, {"table", write_table, 0}, {"gap", gap, 0}, {"rebuild", rebuild, 0},
-    {"rebuild_guided", guided, 0}, {"guess", guess, 1}, {"poll", poll, 0}, {"gap of a poll", gap_of_poll, 0},
+    {"rebuild_guided", guided, 0}, {"guess", guess, 1}, {"graft", graft, 0}, {"prune", prune, 0},
+    {"prune of leaf 0", prune_first, 0}, {"poll", poll, 0}, {"gap of a poll", gap_of_poll, 0},
     {"rebuild of a poll", rebuild_of_poll, 0}, {"rebuild_guided of a poll", guided_of_poll, 0},
     {"guess of a poll", guess_of_poll, 1}, {"check_sheet", check_sheet, 0}, {"sheet_table", sheet_table, 0},
     {"sheet_name", sheet_name, 0}, {"rebuild_sheet", rebuild_sheet, 0}, {"export", write_text, 0},
@@ -136,33 +153,34 @@ static void choose(int shape, size_t count, size_t *first, size_t *second)
     }
 }
 
-/* A tree of this shape, its merges and its table. Where turned is 1 the children of every row are exchanged. */
-static void fill_tree(int shape, size_t turned)
+/* A tree of this shape on n leaves, its merges and its table. Where turned is 1 the children of every row are
+   exchanged. */
+static void fill_tree(int shape, size_t turned, size_t n, uint16_t *rows, uint16_t *joined, uint32_t *own)
 {
     uint16_t subtree[2 * N], held[2 * N];
-    size_t count = N - 1;
+    size_t count = n - 1;
     for (size_t k = 0; k < count; k++)
         subtree[k] = held[k] = (uint16_t)(k + 1);
-    for (size_t row = 0; row < N - 2; row++) {
+    for (size_t row = 0; row < n - 2; row++) {
         size_t first, second;
         choose(shape, count, &first, &second);
-        listing[2 * row + turned] = subtree[first];
-        listing[2 * row + 1 - turned] = subtree[second];
-        merges[2 * row] = held[first];
-        merges[2 * row + 1] = held[second];
+        rows[2 * row + turned] = subtree[first];
+        rows[2 * row + 1 - turned] = subtree[second];
+        joined[2 * row] = held[first];
+        joined[2 * row + 1] = held[second];
         size_t low = first < second ? first : second, high = first < second ? second : first;
         uint16_t left = held[first];
         memmove(subtree + high, subtree + high + 1, (count - high - 1) * sizeof *subtree);
         memmove(held + high, held + high + 1, (count - high - 1) * sizeof *held);
         memmove(subtree + low, subtree + low + 1, (count - low - 2) * sizeof *subtree);
         memmove(held + low, held + low + 1, (count - low - 2) * sizeof *held);
-        subtree[count - 2] = (uint16_t)(N + row);
+        subtree[count - 2] = (uint16_t)(n + row);
         held[count - 2] = left;
         count--;
     }
-    merges[2 * (N - 2)] = held[0];
-    merges[2 * (N - 2) + 1] = 0;
-    reply = quartree_table(N, listing, QUARTREE_LISTING_NUMBERS(N), own_table, N * N);
+    joined[2 * (n - 2)] = held[0];
+    joined[2 * (n - 2) + 1] = 0;
+    reply = quartree_table(n, rows, QUARTREE_LISTING_NUMBERS(n), own, n * n);
 }
 
 /* The longest sheet, with this table. */
@@ -220,7 +238,8 @@ static void fill_poll(void)
 
 static void fill(int shape, size_t turned)
 {
-    fill_tree(shape, turned);
+    fill_tree(shape, turned, FEWER, fewer_listing, merges, fewer_table);
+    fill_tree(shape, turned, N, listing, merges, own_table);
     memcpy(table, own_table, sizeof table);
     for (uint16_t i = 0; i < 4; i++)
         question[i] = (uint16_t)(i * (N - 1) / 3);
@@ -229,10 +248,14 @@ static void fill(int shape, size_t turned)
     fill_poll();
     leaves = N;
     poll_leaves = POLL;
+    fewer_leaves = FEWER;
     numbers = QUARTREE_LISTING_NUMBERS(N);
     cells = N * N;
+    fewer_numbers = QUARTREE_LISTING_NUMBERS(FEWER);
+    fewer_cells = FEWER * FEWER;
     room = SIZE_MAX;
-    leaf = N - 1;
+    leaf = turned == 1 ? 1 + below(N - 1) : N - 1;
+    edge = turned == 1 ? 1 + below(QUARTREE_EDGES(FEWER)) : QUARTREE_EDGES(FEWER);
 }
 
 /* ---- The faults, where they are found last ----------------------------------------------------------------------- */
@@ -244,19 +267,27 @@ static void too_many_leaves(void)
 {
     leaves = N + 1;
     poll_leaves = POLL + 1;
+    fewer_leaves = FEWER + 1;
     sheet[sheet_len - 8] = N + 1;
 }
 static void input_short(void)
 {
     numbers--;
     cells--;
+    fewer_numbers--;
+    fewer_cells--;
 }
 static void room_short(void) { room = 1; }
-static void diagonal_filled(void) { table[N * N - 1] = 1; }
-static void halves_unequal(void) { table[N * N - N - 1]++; }
+static void diagonal_filled(void) { table[N * N - 1] = fewer_table[FEWER * FEWER - 1] = 1; }
+static void halves_unequal(void)
+{
+    table[N * N - N - 1]++;
+    fewer_table[FEWER * FEWER - FEWER - 1]++;
+}
 static void table_of_zeros(void)
 {
     memset(table, 0, sizeof table);
+    memset(fewer_table, 0, sizeof fewer_table);
     fill_sheet();
 }
 static void one_cell_wrong(void)
@@ -264,6 +295,8 @@ static void one_cell_wrong(void)
     size_t i = below(N - 1), j = i + 1 + below(N - 1 - i);
     table[N * i + j]++;
     table[N * j + i]++;
+    fewer_table[FEWER * (FEWER - 2) + FEWER - 1]++;
+    fewer_table[FEWER * (FEWER - 1) + FEWER - 2]++;
     fill_sheet();
 }
 static void any_table(void)
@@ -273,12 +306,17 @@ static void any_table(void)
             table[N * i + j] = table[N * j + i] = (uint32_t)below(QUARTREE_TABLE_CELLS(N));
     fill_sheet();
 }
-static void child_not_allowed(void) { listing[numbers - 1] = 0; }
-static void child_again(void) { listing[numbers - 1] = listing[0]; }
+static void child_not_allowed(void) { listing[numbers - 1] = fewer_listing[fewer_numbers - 1] = 0; }
+static void child_again(void)
+{
+    listing[numbers - 1] = listing[0];
+    fewer_listing[fewer_numbers - 1] = fewer_listing[0];
+}
 static void leaf_not_there(void)
 {
     question[3] = N;
     leaf = N;
+    edge = QUARTREE_EDGES(FEWER) + 1;
 }
 static void record_not_due(void) { records[LAST_RECORD].a++; }
 static void code_above_6(void) { records[LAST_RECORD].code = 7; }
@@ -363,7 +401,7 @@ int main(void)
         size_t *limited = &most[calls[c].guesses];
         *limited = taken[c] > *limited ? taken[c] : *limited;
     }
-    if (answered != (1u << 20) - 1) {
+    if (answered != (1u << 21) - 1) {
         printf("not every refusal was met: %x\n", answered);
         return 1;
     }

@@ -821,6 +821,12 @@ size_t draw_leaf(struct source *source, size_t n)
     return below(source, n);
 }
 
+/* 1 to 2n-3; after the greatest number comes 0. */
+size_t draw_edge(struct source *source, size_t n)
+{
+    return draw_leaf(source, 2 * n - 3) + 1;
+}
+
 /* ---- Texts ------------------------------------------------------------------------------------------------------- */
 
 size_t draw_sheet_for_text(struct source *source, uint8_t *sheet)

@@ -72,8 +72,10 @@ size_t draw_question(struct source *source, size_t n, uint16_t *question);
 size_t draw_poll(struct source *source, size_t n, struct quartree_record *records);
 size_t draw_sheet(struct source *source, uint8_t *sheet);
 
-/* The leaf that a sheet of n leaves is asked about. */
+/* The leaf that a sheet of n leaves is asked about or a tree is pruned of, and the edge that one is grafted on: mostly
+   one that is there. */
 size_t draw_leaf(struct source *source, size_t n);
+size_t draw_edge(struct source *source, size_t n);
 
 /* A sheet for a text: mostly whole, with short names and cells of 0. */
 size_t draw_sheet_for_text(struct source *source, uint8_t *sheet);

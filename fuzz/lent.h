@@ -15,7 +15,7 @@
 enum taker { REFERENCE, PAGE_BEFORE, PAGE_AFTER, TAKERS };
 
 enum {
-    MOST_LENT = 3,             /* buffers of a call */
+    MOST_LENT = 4,             /* buffers of a call */
     MEMORY_BYTES = 256 * 1024, /* a buffer and its guard bytes at most */
     GUARD_BYTES = 1024
 };

@@ -9,6 +9,8 @@
 
 #[path = "../reference/src/chance.rs"]
 mod chance;
+#[path = "../reference/src/graft.rs"]
+mod graft;
 #[path = "../reference/src/guess.rs"]
 mod guess;
 #[path = "../reference/src/merge.rs"]

@@ -16,12 +16,12 @@
 
 enum entry {
     CHECK, STANDARDISE, SPLITS, PAIRING, TABLE, GAP, REBUILD, REBUILD_GUIDED, POLL, SHEET_TABLE, SHEET_NAME,
-    REBUILD_SHEET, CHECK_SHEET, EXPORT, IMPORT, RESTANDARDISE, GUESS, ENTRIES
+    REBUILD_SHEET, CHECK_SHEET, EXPORT, IMPORT, RESTANDARDISE, GUESS, GRAFT, PRUNE, ENTRIES
 };
 
 static const char *const entry_name[ENTRIES] = {
     "check", "standardise", "splits", "pairing", "table", "gap", "rebuild", "rebuild_guided", "poll", "sheet_table",
-    "sheet_name", "rebuild_sheet", "check_sheet", "export", "import", "restandardise", "guess"
+    "sheet_name", "rebuild_sheet", "check_sheet", "export", "import", "restandardise", "guess", "graft", "prune"
 };
 
 /* The reference's entries take what the archive's take. */
@@ -42,15 +42,18 @@ extern __typeof__(quartree_export) reference_export;
 extern __typeof__(quartree_import) reference_import;
 extern __typeof__(quartree_restandardise) reference_restandardise;
 extern __typeof__(quartree_guess) reference_guess;
+extern __typeof__(quartree_graft) reference_graft;
+extern __typeof__(quartree_prune) reference_prune;
 
 /* A call: the numbers it is given, and the buffers it is lent, inputs in the order of its arguments and then the
-   output; but the text of an import, which may be all bytes that are left, is the last. Of a sheet, n is what its
+   outputs; but the text of an import, which may be all bytes that are left, is the last. Of a sheet, n is what its
    trailer says and is not an argument. */
 struct call {
     enum entry entry;
     uint32_t word;   /* for a table */
     uint32_t origin; /* of a record */
-    size_t n, leaf;
+    size_t n;
+    size_t named; /* a leaf or an edge */
     size_t buffers;
     struct lent lent[MOST_LENT];
 };
@@ -59,7 +62,7 @@ _Static_assert(sizeof(struct quartree_record) * MOST_RECORDS + GUARD_BYTES <= ME
 _Static_assert(sizeof(int64_t) * MOST_CELLS + GUARD_BYTES <= MEMORY_BYTES, "every output can be lent");
 
 /* How often each entry was answered by each number. */
-enum { NUMBERS = 20 };
+enum { NUMBERS = 21 };
 static unsigned long answered[ENTRIES][NUMBERS];
 
 /* What the fuzzer takes for new besides places in the code: an entry with a number at a class of leaf counts, for a
@@ -122,24 +125,50 @@ static size_t read_word_and_count(struct source *source, struct call *call)
     return call->n;
 }
 
-/* gap: a table and a listing, of one tree or of two. */
+/* A listing and a table. */
+struct kept {
+    uint16_t listing[MOST_NUMBERS];
+    uint32_t table[MOST_CELLS];
+    size_t len, cells;
+};
+
+/* Draws them, of one tree in so many cases of 256, else of two. */
+static void read_kept(struct source *source, const struct call *call, unsigned of_one, struct kept *kept)
+{
+    static uint16_t merges[MOST_NUMBERS];
+    draw_listing(source, call->n, kept->listing);
+    if (take(source) < of_one)
+        merges_of_listing(call->n, kept->listing, merges);
+    else
+        draw_merges(source, call->n, merges);
+    table_of_merges(call->n, merges, kept->table);
+    scale_table(source, call->n, call->word, kept->table);
+    kept->cells = damage_table(source, call->n, kept->table);
+    kept->len = damage_listing(source, call->n, kept->listing);
+}
+
 static void read_gap_call(struct source *source, struct call *call)
 {
-    static uint16_t listing[MOST_NUMBERS], merges[MOST_NUMBERS];
-    static uint32_t table[MOST_CELLS];
-    size_t n = read_word_and_count(source, call), len, cells;
-    draw_listing(source, n, listing);
-    if (take(source) < 128)
-        merges_of_listing(n, listing, merges);
-    else
-        draw_merges(source, n, merges);
-    table_of_merges(n, merges, table);
-    scale_table(source, n, call->word, table);
-    cells = damage_table(source, n, table);
-    len = damage_listing(source, n, listing);
-    lend_next(call, "table", table, sizeof *table, cells);
-    lend_next(call, "listing", listing, sizeof *listing, len);
+    static struct kept kept;
+    size_t n = read_word_and_count(source, call);
+    read_kept(source, call, 128, &kept);
+    lend_next(call, "table", kept.table, sizeof *kept.table, kept.cells);
+    lend_next(call, "listing", kept.listing, sizeof *kept.listing, kept.len);
     lend_output(source, call, sizeof(int64_t), result_of(n, QUARTREE_TABLE_CELLS(n)));
+}
+
+/* graft, prune */
+static void read_change_call(struct source *source, struct call *call)
+{
+    static struct kept kept;
+    size_t n = call->n = draw_leaf_count(source), fitting = result_of(n, n);
+    size_t result = call->entry == GRAFT ? n + 1 : n - 1;
+    read_kept(source, call, 240, &kept);
+    call->named = call->entry == GRAFT ? draw_edge(source, fitting) : draw_leaf(source, fitting);
+    lend_next(call, "listing", kept.listing, sizeof *kept.listing, kept.len);
+    lend_next(call, "table", kept.table, sizeof *kept.table, kept.cells);
+    lend_output(source, call, sizeof(uint16_t), result_of(n, QUARTREE_LISTING_NUMBERS(result)));
+    lend_output(source, call, sizeof(uint32_t), result_of(n, QUARTREE_TABLE_CELLS(result)));
 }
 
 /* rebuild, rebuild_guided, guess */
@@ -189,7 +218,7 @@ static void read_sheet_call(struct source *source, struct call *call)
     else if (call->entry == REBUILD_SHEET)
         lend_output(source, call, 1, QUARTREE_LISTING_BYTES(n));
     else if (call->entry == SHEET_NAME)
-        call->leaf = draw_leaf(source, n);
+        call->named = draw_leaf(source, n);
 }
 
 /* The length of an export with this sheet: a length byte a name stands before the offset, too. */
@@ -221,7 +250,7 @@ static void read_call(struct source *source, struct call *call)
 {
     call->entry = (enum entry)below(source, ENTRIES);
     call->buffers = 0;
-    call->leaf = 0;
+    call->named = 0;
     call->word = QUARTREE_COUNTS;
     call->origin = QUARTREE_REBUILT;
     switch (call->entry) {
@@ -232,6 +261,10 @@ static void read_call(struct source *source, struct call *call)
     case REBUILD_GUIDED:
     case GUESS:
         read_rebuild_call(source, call);
+        break;
+    case GRAFT:
+    case PRUNE:
+        read_change_call(source, call);
         break;
     case POLL:
         read_poll_call(source, call);
@@ -283,7 +316,7 @@ static uint64_t make_call(const struct call *call, enum taker taker)
     case SHEET_TABLE:
         return ASK(sheet_table, LENT(0), LENT(1));
     case SHEET_NAME:
-        return ASK(sheet_name, LENT(0), call->leaf);
+        return ASK(sheet_name, LENT(0), call->named);
     case REBUILD_SHEET:
         return ASK(rebuild_sheet, LENT(0), LENT(1));
     case EXPORT:
@@ -294,6 +327,10 @@ static uint64_t make_call(const struct call *call, enum taker taker)
         return ASK(restandardise, call->n, call->origin, LENT(0), LENT(1));
     case GUESS:
         return ASK(guess, call->n, call->word, LENT(0), LENT(1));
+    case GRAFT:
+        return ASK(graft, call->n, LENT(0), LENT(1), call->named, LENT(2), LENT(3));
+    case PRUNE:
+        return ASK(prune, call->n, LENT(0), LENT(1), call->named, LENT(2), LENT(3));
     default:
         return ASK(check_sheet, LENT(0));
     }
@@ -302,8 +339,10 @@ static uint64_t make_call(const struct call *call, enum taker taker)
 static void print_call(const struct call *call)
 {
     printf("call: quartree_%s, n = %zu", entry_name[call->entry], call->n);
-    if (call->entry == SHEET_NAME)
-        printf(", leaf = %zu", call->leaf);
+    if (call->entry == SHEET_NAME || call->entry == PRUNE)
+        printf(", leaf = %zu", call->named);
+    if (call->entry == GRAFT)
+        printf(", edge = %zu", call->named);
     if (call->entry == GAP || call->entry == REBUILD || call->entry == REBUILD_GUIDED || call->entry == GUESS)
         printf(", poll = %" PRIu32, call->word);
     if (call->entry == RESTANDARDISE)

@@ -2,11 +2,11 @@
    once more, as the scope has them, and every call is made through the header.
 
    Each call is accepted at its least leaf count, at 5 and at its most, with lengths that the macros say; a call that
-   takes a table with one of counts and with a poll's, and the guess besides with tables that no tree has. At 5 leaves
-   it is refused in every way that its comment names: by one fault alone, and by that fault with all that are judged
-   after it. An accepted call has to write its result and nothing else; a refused one nothing. The tree is a comb: at 5
-   leaves that of the scope's sheet and text. It is C and C++. The first claim that fails is printed and ends the
-   program. */
+   takes a table with one of counts and with a poll's, and the guess besides with tables that no tree has; a graft and a
+   prune besides at every edge and leaf of trees by chance. At 5 leaves it is refused in every way that its comment
+   names: by one fault alone, and by that fault with all that are judged after it. An accepted call has to write its
+   result and nothing else; a refused one nothing. The tree is a comb: at 5 leaves that of the scope's sheet and text.
+   It is C and C++. The first claim that fails is printed and ends the program. */
 #include "quartree.h"
 #include "quartree.h"
 #include <stdio.h>
@@ -39,6 +39,7 @@ HOLDS(refusal_16, QUARTREE_REFUSED_SAME_NAME == 16);
 HOLDS(refusal_17, QUARTREE_REFUSED_GRAMMAR == 17);
 HOLDS(refusal_18, QUARTREE_REFUSED_NOT_BINARY == 18);
 HOLDS(refusal_19, QUARTREE_REFUSED_UNMATCHED == 19);
+HOLDS(refusal_20, QUARTREE_REFUSED_NOT_OWN == 20);
 
 HOLDS(leaves, QUARTREE_LEAST_LEAVES == 3 && QUARTREE_MOST_LEAVES == 128);
 HOLDS(poll_leaves, QUARTREE_POLL_LEAST_LEAVES == 4 && QUARTREE_POLL_MOST_LEAVES == 32);
@@ -51,6 +52,7 @@ HOLDS(sheet_bytes, QUARTREE_SHEET_MOST_BYTES == 21512 && 128 * 41 + 128 * 127 + 
 HOLDS(listing_numbers, QUARTREE_LISTING_NUMBERS(3) == 2 && QUARTREE_LISTING_NUMBERS(128) == 252);
 HOLDS(listing_bytes, QUARTREE_LISTING_BYTES(3) == 4 && QUARTREE_LISTING_BYTES(128) == 504);
 HOLDS(table_cells, QUARTREE_TABLE_CELLS(3) == 9 && QUARTREE_TABLE_CELLS(128) == 16384);
+HOLDS(edges, QUARTREE_EDGES(3) == 3 && QUARTREE_EDGES(128) == 253);
 HOLDS(set_bytes, QUARTREE_SET_BYTES == 16);
 HOLDS(split_bytes, QUARTREE_SPLIT_BYTES(3) == 0 && QUARTREE_SPLIT_BYTES(128) == 2000);
 HOLDS(text_bytes, QUARTREE_TEXT_BYTES(3) == 125 && QUARTREE_TEXT_BYTES(128) == 5500 && 128 * 40 + 3 * 128 - 4 == 5500);
@@ -71,10 +73,10 @@ HOLDS(figures_of_reply, QUARTREE_FIGURE_X(0x12345678905) == 0x1234567 && QUARTRE
 static const char *const words[] = {
     "accepted", "leaf count is outside", "input", "output", "diagonal", "mirror", "no binary tree", "earlier row",
     "named before", "question", "record", "pairing code", "proposal", "51 54", "n(n-1) + 8", "a bad length",
-    "equals an earlier one", "grammar", "three-way top", "each once"
+    "equals an earlier one", "grammar", "three-way top", "each once", "not its own"
 };
 
-enum { REFUSALS = 19 };
+enum { REFUSALS = 20 };
 
 /* The word for each origin's number. */
 static const char *const origin_words[] = {"rebuilt", "listed", "imported", "guessed", "grafted"};
@@ -94,17 +96,20 @@ struct lent {
         uint32_t cells[QUARTREE_TABLE_CELLS(128) + 1];
         int64_t gaps[QUARTREE_TABLE_CELLS(128) + 1];
     } out;
+    uint32_t out_table[QUARTREE_TABLE_CELLS(128) + 1];
 };
 
 static struct lent lent, before;
 
 /* The numbers that go with them: leaf count, word for the table, a record's origin, lengths, room, and the leaf that is
-   asked for. */
+   asked for or pruned and the edge that is grafted on. */
 static uint32_t word, origin;
-static size_t n, listing_len, question_len, cells, merges_len, count, sheet_len, text_len, room, leaf;
+static size_t n, listing_len, question_len, cells, merges_len, count, sheet_len, text_len, room, table_room, leaf, edge;
 
-/* The results that are due. No gap is left between a tree and its own table. */
-static uint16_t standard[QUARTREE_LISTING_NUMBERS(128)];
+/* The results that are due. No gap is left between a tree and its own table. A graft and a prune have a tree and a
+   table due of one leaf more or less. */
+static uint16_t standard[QUARTREE_LISTING_NUMBERS(128)], changed[QUARTREE_LISTING_NUMBERS(128)];
+static uint32_t changed_table[QUARTREE_TABLE_CELLS(128)];
 static uint8_t splits[QUARTREE_SPLIT_BYTES(128)], listing_bytes_due[QUARTREE_LISTING_BYTES(128)];
 static uint8_t text[QUARTREE_TEXT_BYTES(128)];
 static uint32_t table[QUARTREE_TABLE_CELLS(128)], sixths[QUARTREE_TABLE_CELLS(128)];
@@ -128,25 +133,34 @@ static void put(uint8_t *at, size_t bytes, size_t number)
 }
 
 /* The comb in which leaves 0, 1, 2 and so on leave one after the other. Its quartet a < b < c < d pairs a with b, so
-   cell (i,j) counts the pairs of leaves below i and those of leaves above j. Its listing names greater leaves first. */
+   cell (i,j) counts the pairs of leaves below i and those of leaves above j. */
+static void comb(size_t leaves, uint16_t *rows, uint32_t *of)
+{
+    for (size_t row = 0; row < leaves - 2; row++) {
+        rows[2 * row] = (uint16_t)(leaves - 2 - row);
+        rows[2 * row + 1] = (uint16_t)(row == 0 ? leaves - 1 : leaves + row - 1);
+    }
+    for (size_t i = 0; i < leaves; i++)
+        for (size_t j = i; j < leaves; j++)
+            of[leaves * i + j] = of[leaves * j + i]
+                = (uint32_t)(i == j ? 0 : pairs_of(i) + pairs_of(leaves - 1 - j));
+}
+
+/* The comb, with its listing naming greater leaves first. */
 static void fill_tree(size_t leaves)
 {
+    comb(leaves, standard, table);
     memset(splits, 0, sizeof splits);
     for (size_t row = 0; row < leaves - 2; row++) {
-        size_t next = leaves - 2 - row, rest = row == 0 ? leaves - 1 : leaves + row - 1;
-        lent.listing[2 * row] = standard[2 * row + 1] = (uint16_t)rest;
-        lent.listing[2 * row + 1] = standard[2 * row] = (uint16_t)next;
-        for (size_t k = next; row + 1 < leaves - 2 && k < leaves; k++)
+        lent.listing[2 * row] = standard[2 * row + 1];
+        lent.listing[2 * row + 1] = standard[2 * row];
+        for (size_t k = standard[2 * row]; row + 1 < leaves - 2 && k < leaves; k++)
             splits[QUARTREE_SET_BYTES * row + k / 8] |= (uint8_t)(1u << k % 8);
     }
     for (size_t place = 0; place < QUARTREE_LISTING_NUMBERS(leaves); place++)
         put(listing_bytes_due + 2 * place, 2, standard[place]);
-    for (size_t i = 0; i < leaves; i++)
-        for (size_t j = i; j < leaves; j++) {
-            size_t cell = i == j ? 0 : pairs_of(i) + pairs_of(leaves - 1 - j);
-            table[leaves * i + j] = table[leaves * j + i] = (uint32_t)cell;
-            sixths[leaves * i + j] = sixths[leaves * j + i] = (uint32_t)(6 * cell);
-        }
+    for (size_t place = 0; place < QUARTREE_TABLE_CELLS(leaves); place++)
+        sixths[place] = 6 * table[place];
     memcpy(lent.table, table, QUARTREE_TABLE_CELLS(leaves) * sizeof *table);
     for (size_t step = 0; step < QUARTREE_MERGES(leaves); step++) {
         lent.merges[2 * step] = (uint16_t)(leaves - 1 - step);
@@ -228,7 +242,7 @@ static void fill(size_t leaves)
     cells = QUARTREE_TABLE_CELLS(leaves);
     merges_len = QUARTREE_MERGE_NUMBERS(leaves);
     count = QUARTREE_POLL_RECORDS(leaves);
-    leaf = leaves - 1;
+    leaf = edge = leaves - 1;
     origin = 4;
 }
 
@@ -259,6 +273,16 @@ static uint64_t guided(void)
 {
     return quartree_rebuild_guided(n, word, lent.table, cells, lent.merges, merges_len, lent.out.numbers, room);
 }
+static uint64_t graft(void)
+{
+    return quartree_graft(n, lent.listing, listing_len, lent.table, cells, edge, lent.out.numbers, room, lent.out_table,
+                          table_room);
+}
+static uint64_t prune(void)
+{
+    return quartree_prune(n, lent.listing, listing_len, lent.table, cells, leaf, lent.out.numbers, room, lent.out_table,
+                          table_room);
+}
 static uint64_t poll(void) { return quartree_poll(n, lent.records, count, lent.out.cells, room); }
 static uint64_t check_sheet(void) { return quartree_check_sheet(lent.sheet, sheet_len); }
 static uint64_t sheet_table(void) { return quartree_sheet_table(lent.sheet, sheet_len, lent.out.cells, room); }
@@ -279,6 +303,8 @@ static uint64_t import_text(void)
 /* How many elements a result has. */
 static size_t no_cells(size_t leaves) { return 0 * leaves; }
 static size_t of_listing(size_t leaves) { return QUARTREE_LISTING_NUMBERS(leaves); }
+static size_t of_grafted(size_t leaves) { return QUARTREE_LISTING_NUMBERS(leaves + 1); }
+static size_t of_pruned(size_t leaves) { return QUARTREE_LISTING_NUMBERS(leaves - 1); }
 static size_t of_splits(size_t leaves) { return QUARTREE_SPLIT_BYTES(leaves); }
 static size_t of_table(size_t leaves) { return QUARTREE_TABLE_CELLS(leaves); }
 static size_t of_bytes(size_t leaves) { return QUARTREE_LISTING_BYTES(leaves); }
@@ -307,7 +333,8 @@ static uint64_t place_of_last_name(void)
 /* What a call takes. */
 enum {
     COUNT = 1, POLL_COUNT = 2, LISTING = 4, QUESTION = 8, TABLE = 16, MERGES = 32, RECORDS = 64, SHEET = 128,
-    LEAF = 256, OUTPUT = 512, TEXT = 1024, POLL_TABLE = 2048, ZEROS = 4096
+    LEAF = 256, OUTPUT = 512, TEXT = 1024, POLL_TABLE = 2048, ZEROS = 4096, EDGE = 8192, PRUNED = 16384,
+    CHANGE = EDGE | PRUNED
 };
 
 struct entry {
@@ -337,6 +364,10 @@ static const struct entry entries[] = {
      standard, 2},
     {"rebuild_guided", guided, COUNT | TABLE | MERGES | OUTPUT, 3, 128, {1, 2, 3, 4, 5, 12}, rebuilt, of_listing,
      standard, 2},
+    {"graft", graft, COUNT | LISTING | TABLE | EDGE | OUTPUT, 3, 127, {1, 2, 3, 7, 8, 4, 5, 20}, grafted, of_grafted,
+     changed, 2},
+    {"prune", prune, COUNT | LISTING | TABLE | PRUNED | OUTPUT, 4, 128, {1, 2, 3, 7, 8, 4, 5, 20}, grafted, of_pruned,
+     changed, 2},
     {"gap of a poll", gap, POLL_COUNT | LISTING | TABLE | POLL_TABLE | OUTPUT, 4, 32, {1, 2, 3, 7, 8, 4, 5}, nothing,
      of_table, gaps, 8},
     {"rebuild of a poll", rebuild, POLL_COUNT | TABLE | POLL_TABLE | OUTPUT, 4, 32, {1, 2, 3, 4, 5, 6}, rebuilt,
@@ -364,6 +395,8 @@ enum { ENTRIES = sizeof entries / sizeof *entries };
 
 static void leaves_2(void) { n = 2; }
 static void leaves_129(void) { n = 129; }
+static void leaves_3(void) { n = 3; }
+static void leaves_128(void) { n = 128; }
 static void poll_of_3(void) { n = 3; }
 static void poll_of_33(void) { n = 33; }
 static void sheet_of_2(void) { put(lent.sheet + sheet_len - 8, 2, 2); }
@@ -379,8 +412,15 @@ static void merges_shorter(void) { merges_len--; }
 static void poll_longer(void) { count++; }
 static void poll_shorter(void) { count--; }
 static void room_shorter(void) { room--; }
+static void table_room_shorter(void) { table_room--; }
 static void diagonal_filled(void) { lent.table[5 * 3 + 3] = 1; }
 static void halves_unequal(void) { lent.table[5 * 1 + 3] ^= 1; }
+static void cells_off_by_1(void)
+{
+    lent.table[n * 1 + 2]++;
+    lent.table[n * 2 + 1]++;
+}
+static void table_of_poll(void) { memcpy(lent.table, sixths, cells * sizeof *sixths); }
 static void table_of_zeros(void) { memset(lent.table, 0, cells * sizeof *lent.table); }
 static void sheet_of_zeros(void) { memset(lent.sheet + 10, 0, 20); }
 static void leaf_0_a_child(void) { lent.listing[2] = 0; }
@@ -389,6 +429,17 @@ static void child_again(void) { lent.listing[3] = lent.listing[0]; }
 static void leaf_5_asked(void) { lent.question[2] = 5; }
 static void leaf_asked_again(void) { lent.question[3] = lent.question[0]; }
 static void leaf_5_named(void) { leaf = 5; }
+static void edge_0(void) { edge = 0; }
+static void edge_8(void) { edge = 8; }
+static void edge_257(void) { edge = 257; }
+static void leaf_256(void) { leaf = 256; }
+static void greatest_edge(void) { edge = SIZE_MAX; }
+static void greatest_leaf(void) { leaf = SIZE_MAX; }
+/* What is left of them in 16 or 32 bits is there. */
+static void edge_1_above_16(void) { edge = 65536 + 1; }
+static void leaf_0_above_16(void) { leaf = 65536; }
+static void edge_1_above_half(void) { edge = SIZE_MAX / 2 + 2; }
+static void leaf_0_above_half(void) { leaf = SIZE_MAX / 2 + 1; }
 static void record_not_due(void) { lent.records[2].d--; }
 static void code_7(void) { lent.records[3].code = 7; }
 static void proposals_from_0_2(void)
@@ -446,12 +497,15 @@ struct fault {
     uint64_t figure;
     unsigned in;      /* what has the fault: of those that a call takes */
     void (*make)(void);
-    int alone;        /* it is tried alone: it is judged after every other fault of a sheet, or is the whole text */
+    int alone;        /* it is tried alone: it is judged after every other fault of a sheet, or is the whole text or
+                         table, or another number for what is named */
 };
 
 static const struct fault faults[] = {
     {QUARTREE_REFUSED_LEAF_COUNT, 1, 0, COUNT, leaves_2, 0},
     {QUARTREE_REFUSED_LEAF_COUNT, 1, 0, COUNT, leaves_129, 0},
+    {QUARTREE_REFUSED_LEAF_COUNT, 1, 0, EDGE, leaves_128, 0},
+    {QUARTREE_REFUSED_LEAF_COUNT, 1, 0, PRUNED, leaves_3, 0},
     {QUARTREE_REFUSED_LEAF_COUNT, 1, 0, POLL_COUNT, poll_of_3, 0},
     {QUARTREE_REFUSED_LEAF_COUNT, 1, 0, POLL_COUNT, poll_of_33, 0},
     {QUARTREE_REFUSED_LEAF_COUNT, 1, 0, SHEET, sheet_of_2, 0},
@@ -467,6 +521,7 @@ static const struct fault faults[] = {
     {QUARTREE_REFUSED_INPUT_LENGTH, 2, 0, RECORDS, poll_longer, 0},
     {QUARTREE_REFUSED_INPUT_LENGTH, 2, 0, RECORDS, poll_shorter, 0},
     {QUARTREE_REFUSED_OUTPUT_ROOM, 3, 0, OUTPUT, room_shorter, 0},
+    {QUARTREE_REFUSED_OUTPUT_ROOM, 3, 0, CHANGE, table_room_shorter, 0},
     {QUARTREE_REFUSED_DIAGONAL, 4, 3, TABLE, diagonal_filled, 0},
     {QUARTREE_REFUSED_HALVES, 5, 256 * 1 + 3, TABLE, halves_unequal, 0},
     {QUARTREE_REFUSED_NO_TREE, 6, 0, TABLE, table_of_zeros, 0},
@@ -505,6 +560,20 @@ static const struct fault faults[] = {
     {QUARTREE_REFUSED_UNMATCHED, 19, 0, TEXT, x_for_a, 0},
     {QUARTREE_REFUSED_UNMATCHED, 19, 0, TEXT, a_again_for_b, 0},
     {QUARTREE_REFUSED_UNMATCHED, 19, 0, TEXT, no_e, 1},
+    {QUARTREE_REFUSED_NOT_OWN, 20, 0, CHANGE, cells_off_by_1, 0},
+    {QUARTREE_REFUSED_NOT_OWN, 20, 0, CHANGE, table_of_poll, 1},
+    {QUARTREE_REFUSED_NOT_OWN, 20, 0, CHANGE, table_of_zeros, 1},
+    {QUARTREE_REFUSED_NOT_OWN, 20, 0, EDGE, edge_0, 1},
+    {QUARTREE_REFUSED_NOT_OWN, 20, 0, EDGE, edge_8, 0},
+    {QUARTREE_REFUSED_NOT_OWN, 20, 0, EDGE, edge_257, 1},
+    {QUARTREE_REFUSED_NOT_OWN, 20, 0, EDGE, edge_1_above_16, 1},
+    {QUARTREE_REFUSED_NOT_OWN, 20, 0, EDGE, edge_1_above_half, 1},
+    {QUARTREE_REFUSED_NOT_OWN, 20, 0, EDGE, greatest_edge, 1},
+    {QUARTREE_REFUSED_NOT_OWN, 20, 0, PRUNED, leaf_5_named, 0},
+    {QUARTREE_REFUSED_NOT_OWN, 20, 0, PRUNED, leaf_256, 1},
+    {QUARTREE_REFUSED_NOT_OWN, 20, 0, PRUNED, leaf_0_above_16, 1},
+    {QUARTREE_REFUSED_NOT_OWN, 20, 0, PRUNED, leaf_0_above_half, 1},
+    {QUARTREE_REFUSED_NOT_OWN, 20, 0, PRUNED, greatest_leaf, 1},
 };
 enum { FAULTS = sizeof faults / sizeof *faults };
 
@@ -520,15 +589,25 @@ static void claim(int holds, const char *entry, const char *what, unsigned numbe
     exit(1);
 }
 
+/* How many leaves a graft or a prune leaves. */
+static size_t leaves_left(const struct entry *entry, size_t leaves)
+{
+    return (entry->takes & EDGE) != 0 ? leaves + 1 : leaves - 1;
+}
+
 static void fill_for(const struct entry *entry, size_t leaves)
 {
     fill(leaves);
     room = entry->result_cells(leaves);
     word = (entry->takes & POLL_TABLE) != 0 ? QUARTREE_POLL : QUARTREE_COUNTS;
     if (word == QUARTREE_POLL)
-        memcpy(lent.table, sixths, cells * sizeof *sixths);
+        table_of_poll();
     if ((entry->takes & ZEROS) != 0)
         table_of_zeros();
+    if ((entry->takes & CHANGE) != 0) {
+        comb(leaves_left(entry, leaves), changed, changed_table);
+        table_room = QUARTREE_TABLE_CELLS(leaves_left(entry, leaves));
+    }
 }
 
 static uint64_t make(const struct entry *entry)
@@ -545,6 +624,9 @@ static void accept(const struct entry *entry)
     claim(QUARTREE_NUMBER(reply) == (unsigned)QUARTREE_ACCEPTED, entry->name, "is refused", 0);
     claim(QUARTREE_FIGURE(reply) == entry->figure(), entry->name, "has another figure", 0);
     memcpy(&before.out, entry->result, entry->result_cells(n) * entry->cell_bytes);
+    if ((entry->takes & CHANGE) != 0)
+        memcpy(before.out_table, changed_table,
+               QUARTREE_TABLE_CELLS(leaves_left(entry, n)) * sizeof *changed_table);
     claim(memcmp(&before, &lent, sizeof lent) == 0, entry->name, "leaves something else in a buffer", 0);
 }
 
@@ -603,6 +685,7 @@ static void try_sizes(const struct entry *entry, size_t leaves)
     fill_for(entry, leaves);
     accept(entry);
     room++;
+    table_room++;
     accept(entry);
     for (size_t f = 0; f < FAULTS; f++)
         if (can_have(entry, &faults[f], 2) || can_have(entry, &faults[f], 3)) {
@@ -774,7 +857,7 @@ static void try_tables(void)
                 fill(sizes[s]);
                 word = said;
                 if (said == QUARTREE_POLL)
-                    memcpy(lent.table, sixths, cells * sizeof *sixths);
+                    table_of_poll();
                 for (size_t i = 0; i < n; i++)
                     for (size_t j = i + 1; j < n; j++)
                         if (kind == GREATEST)
@@ -785,6 +868,248 @@ static void try_tables(void)
                             put_cell(i, j, any_number() % (most + 1));
                 try_guess();
             }
+}
+
+/* ---- Trees that change ------------------------------------------------------------------------------------------- */
+
+struct tree {
+    size_t leaves;
+    uint16_t rows[QUARTREE_LISTING_NUMBERS(128)];
+    uint32_t cells[QUARTREE_TABLE_CELLS(128)];
+};
+
+static int same(const struct tree *tree, const struct tree *other)
+{
+    return tree->leaves == other->leaves
+           && memcmp(tree->rows, other->rows, QUARTREE_LISTING_NUMBERS(tree->leaves) * sizeof *tree->rows) == 0
+           && memcmp(tree->cells, other->cells, QUARTREE_TABLE_CELLS(tree->leaves) * sizeof *tree->cells) == 0;
+}
+
+/* Lends a tree and its table, and room for a tree of so many leaves. The listing is far from standard: again and again
+   the rows are gone through from the last to the first, and those come next whose children are there; and the children
+   of some are exchanged. */
+static void lend(const struct tree *tree, size_t leaves)
+{
+    uint16_t number[QUARTREE_EDGES(128) + 1] = {0};
+    size_t rows = 0;
+    n = tree->leaves;
+    listing_len = QUARTREE_LISTING_NUMBERS(n);
+    cells = QUARTREE_TABLE_CELLS(n);
+    room = QUARTREE_LISTING_NUMBERS(leaves);
+    table_room = QUARTREE_TABLE_CELLS(leaves);
+    memcpy(lent.table, tree->cells, cells * sizeof *lent.table);
+    for (size_t k = 1; k < n; k++)
+        number[k] = (uint16_t)k;
+    while (rows < n - 2)
+        for (size_t row = n - 2; row-- > 0;) {
+            size_t first = number[tree->rows[2 * row]], second = number[tree->rows[2 * row + 1]];
+            size_t turned = any_number() & 1;
+            if (number[n + row] != 0 || first == 0 || second == 0)
+                continue;
+            lent.listing[2 * rows + turned] = (uint16_t)first;
+            lent.listing[2 * rows + 1 - turned] = (uint16_t)second;
+            number[n + row] = (uint16_t)(n + rows++);
+        }
+}
+
+/* Takes what was written: a standard listing and its tree's table. */
+static void take(uint64_t reply, struct tree *tree, size_t leaves, const char *name)
+{
+    size_t numbers = QUARTREE_LISTING_NUMBERS(leaves), many = QUARTREE_TABLE_CELLS(leaves);
+    static uint16_t rows[QUARTREE_LISTING_NUMBERS(128)];
+    static uint32_t counted[QUARTREE_TABLE_CELLS(128)];
+    claim(reply == 256 * QUARTREE_GRAFTED, name, "has another reply", 0);
+    tree->leaves = leaves;
+    memcpy(tree->rows, lent.out.numbers, numbers * sizeof *tree->rows);
+    memcpy(tree->cells, lent.out_table, many * sizeof *tree->cells);
+    claim(quartree_standardise(leaves, tree->rows, numbers, rows, numbers) == QUARTREE_ACCEPTED
+              && memcmp(rows, tree->rows, numbers * sizeof *rows) == 0,
+          name, "writes a listing that is not standard", 0);
+    claim(quartree_table(leaves, tree->rows, numbers, counted, many) == QUARTREE_ACCEPTED
+              && memcmp(counted, tree->cells, many * sizeof *counted) == 0,
+          name, "writes another table than is counted afresh", 0);
+}
+
+static void graft_on(const struct tree *tree, size_t on, struct tree *to)
+{
+    lend(tree, tree->leaves + 1);
+    edge = on;
+    take(graft(), to, tree->leaves + 1, "graft");
+}
+
+static void prune_off(const struct tree *tree, size_t off, struct tree *to)
+{
+    lend(tree, tree->leaves - 1);
+    leaf = off;
+    take(prune(), to, tree->leaves - 1, "prune");
+}
+
+/* A tree by chance, with its table. */
+static void draw(struct tree *tree, size_t leaves)
+{
+    uint16_t open[128];
+    size_t many = leaves - 1, numbers = QUARTREE_LISTING_NUMBERS(leaves);
+    fill(leaves);
+    for (size_t k = 0; k < many; k++)
+        open[k] = (uint16_t)(k + 1);
+    for (size_t row = 0; row < leaves - 2; row++) {
+        for (size_t child = 0; child < 2; child++) {
+            size_t k = any_number() % many;
+            lent.listing[2 * row + child] = open[k];
+            open[k] = open[--many];
+        }
+        open[many++] = (uint16_t)(leaves + row);
+    }
+    tree->leaves = leaves;
+    claim(quartree_standardise(leaves, lent.listing, numbers, tree->rows, numbers) == QUARTREE_ACCEPTED
+              && quartree_table(leaves, tree->rows, numbers, tree->cells, QUARTREE_TABLE_CELLS(leaves))
+                     == QUARTREE_ACCEPTED,
+          "table", "refuses a tree", 0);
+}
+
+static uint64_t pairs(const struct tree *tree, const uint16_t *of)
+{
+    uint64_t reply = quartree_pairing(tree->leaves, tree->rows, QUARTREE_LISTING_NUMBERS(tree->leaves), of, 4);
+    claim(QUARTREE_NUMBER(reply) == (unsigned)QUARTREE_ACCEPTED, "pairing", "refuses four leaves", 0);
+    return reply;
+}
+
+/* Four leaves that stay are paired as before, where leaf `gone`, if there is one, is taken away and higher ones move
+   down: fifty times four by chance. */
+static void keeps_pairings(const struct tree *tree, const struct tree *to, size_t gone, const char *name)
+{
+    if ((tree->leaves < to->leaves ? tree->leaves : to->leaves) < 4)
+        return;
+    for (int time = 0; time < 50; time++) {
+        uint16_t of[4], now[4];
+        for (size_t k = 0; k < 4;) {
+            int again = 0;
+            of[k] = (uint16_t)(any_number() % tree->leaves);
+            for (size_t e = 0; e < k; e++)
+                again |= of[e] == of[k];
+            now[k] = (uint16_t)(of[k] > gone ? of[k] - 1 : of[k]);
+            k += !again && of[k] != gone;
+        }
+        claim(pairs(tree, of) == pairs(to, now), name, "pairs four leaves otherwise", 0);
+    }
+}
+
+/* The leaves under a number of a listing, a bit each. */
+static void set_under(const struct tree *tree, size_t number, uint8_t *set)
+{
+    if (number < tree->leaves) {
+        set[number / 8] |= (uint8_t)(1u << number % 8);
+        return;
+    }
+    set_under(tree, tree->rows[2 * (number - tree->leaves)], set);
+    set_under(tree, tree->rows[2 * (number - tree->leaves) + 1], set);
+}
+
+/* Beside leaf n, in the grafted tree, are the leaves that were under the edge. */
+static int stands_on(const struct tree *tree, size_t on, const struct tree *to)
+{
+    uint8_t under[QUARTREE_SET_BYTES] = {0}, beside[QUARTREE_SET_BYTES] = {0};
+    size_t place = 1;
+    while (to->rows[place] != tree->leaves)
+        place += 2;
+    set_under(tree, on, under);
+    set_under(to, to->rows[place - 1], beside);
+    return memcmp(under, beside, sizeof under) == 0;
+}
+
+/* Of large trees some edges and leaves are taken; the first and the last are. */
+static int passed_over(size_t k, size_t first, size_t last)
+{
+    return last > 64 && k != first && k != last && any_number() % 16 != 0;
+}
+
+/* What the header says of grafts and prunes, of one tree: at every edge and every leaf. */
+static void try_edges(const struct tree *tree)
+{
+    static uint16_t made[QUARTREE_EDGES(127)][QUARTREE_LISTING_NUMBERS(128)];
+    static struct tree to, back;
+    size_t many = 0, bytes = QUARTREE_LISTING_NUMBERS(tree->leaves + 1) * sizeof **made;
+    for (size_t on = 1; on <= QUARTREE_EDGES(tree->leaves); on++) {
+        if (passed_over(on, 1, QUARTREE_EDGES(tree->leaves)))
+            continue;
+        graft_on(tree, on, &to);
+        claim(stands_on(tree, on, &to), "graft", "takes another edge", 0);
+        keeps_pairings(tree, &to, tree->leaves, "graft");
+        for (size_t other = 0; other < many; other++)
+            claim(memcmp(made[other], to.rows, bytes) != 0, "graft", "makes one tree on two edges", 0);
+        memcpy(made[many++], to.rows, bytes);
+        prune_off(&to, tree->leaves, &back);
+        claim(same(tree, &back), "prune", "does not give back what was grafted on", 0);
+    }
+}
+
+static void try_leaves(const struct tree *tree)
+{
+    static struct tree to, again;
+    size_t made = 0;
+    for (size_t off = 0; off < tree->leaves; off++)
+        if (!passed_over(off, 0, tree->leaves - 1)) {
+            prune_off(tree, off, &to);
+            keeps_pairings(tree, &to, off, "prune");
+        }
+    for (size_t on = 1; tree->leaves <= 16 && on <= QUARTREE_EDGES(to.leaves); on++) {
+        graft_on(&to, on, &again);
+        made += (size_t)same(tree, &again);
+    }
+    claim(tree->leaves > 16 || made == 1, "graft", "does not make a tree of what pruning its last leaf leaves", 0);
+}
+
+/* Grafts from the least leaves to the most and prunes back, each handed what the one before it made. */
+static void try_chain(void)
+{
+    static struct tree tree, to;
+    draw(&tree, 3);
+    for (; tree.leaves < 128; tree = to)
+        graft_on(&tree, 1 + any_number() % QUARTREE_EDGES(tree.leaves), &to);
+    lend(&tree, 128);
+    edge = 1;
+    claim(graft() == QUARTREE_REFUSED_LEAF_COUNT, "graft", "takes 128 leaves", 1);
+    for (; tree.leaves > 3; tree = to)
+        prune_off(&tree, any_number() % tree.leaves, &to);
+    lend(&tree, 3);
+    leaf = 0;
+    claim(prune() == QUARTREE_REFUSED_LEAF_COUNT, "prune", "takes 3 leaves", 1);
+}
+
+/* A tree that was guessed is changed with its own table, and not with the rough one. */
+static void try_guessed(void)
+{
+    static struct tree tree, to;
+    draw(&tree, 8);
+    lend(&tree, 9);
+    cells_off_by_1();
+    word = QUARTREE_COUNTS;
+    claim(QUARTREE_FIGURE_Y(guess()) == QUARTREE_GUESSED, "guess", "takes a rough table for a tree's", 0);
+    memcpy(tree.rows, lent.out.numbers, listing_len * sizeof *tree.rows);
+    memcpy(lent.listing, tree.rows, listing_len * sizeof *tree.rows);
+    edge = leaf = 1;
+    claim(graft() == QUARTREE_REFUSED_NOT_OWN && prune() == QUARTREE_REFUSED_NOT_OWN, "graft", "takes a rough table",
+          20);
+    claim(quartree_table(n, tree.rows, listing_len, tree.cells, cells) == QUARTREE_ACCEPTED, "table",
+          "refuses a guess", 0);
+    graft_on(&tree, 1, &to);
+    prune_off(&tree, 1, &to);
+}
+
+static void try_changes(void)
+{
+    static const size_t sizes[] = {3, 4, 5, 6, 7, 8, 9, 16, 127, 128};
+    static struct tree tree;
+    for (size_t s = 0; s < sizeof sizes / sizeof *sizes; s++)
+        for (int time = 0; time < (sizes[s] < 16 ? 3 : 1); time++) {
+            draw(&tree, sizes[s]);
+            if (tree.leaves < 128)
+                try_edges(&tree);
+            if (tree.leaves > 3)
+                try_leaves(&tree);
+        }
+    try_chain();
+    try_guessed();
 }
 
 /* What each code adds to the cells (0,1), (0,2), (0,3), (1,2), (1,3) and (2,3) of four leaves; and the total of a poll
@@ -939,6 +1264,7 @@ int main(void)
     try_words();
     try_rough();
     try_tables();
+    try_changes();
     try_codes();
     try_origins();
     try_records();

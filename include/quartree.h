@@ -1,9 +1,10 @@
 /* quartree.h: count tables and strain trees.
 
    The part turns a table of quartet counts into the one tree that has it, or refuses; and it goes the other way. Where
-   no tree has the table, it guesses one, if it is asked to, and says so. It writes trees as Newick text, and reads
-   them. Trees have no root and no branch lengths. This header is the manual: the words, the sizes, the reply and the
-   causes of refusal, the origins, what a caller owes, what every call promises, and then the calls.
+   no tree has the table, it guesses one, if it is asked to, and says so. It adds leaves to a tree and takes leaves from
+   it, and keeps its table in step. It writes trees as Newick text, and reads them. Trees have no root and no branch
+   lengths. This header is the manual: the words, the sizes, the reply and the causes of refusal, the origins, what a
+   caller owes, what every call promises, and then the calls.
 
    Link with libquartree.a. Of the C library it takes memcpy, memmove, memset and memcmp at most.
 
@@ -16,12 +17,15 @@
 #include <stddef.h>
 #include <stdint.h>
 
-#define QUARTREE_VERSION "0.6.0"
+#define QUARTREE_VERSION "0.7.0"
 #define QUARTREE_VERSION_MAJOR 0
-#define QUARTREE_VERSION_MINOR 6
+#define QUARTREE_VERSION_MINOR 7
 #define QUARTREE_VERSION_PATCH 0
 
-/* From 0.5 to 0.6: quartree_guess is new; it takes more stack than the other calls (QUARTREE_GUESS_STACK_BYTES). Where
+/* From 0.6 to 0.7: quartree_graft and quartree_prune are new, and so is refusal 20, which they alone give. Nothing else
+   changes.
+
+   From 0.5 to 0.6: quartree_guess is new; it takes more stack than the other calls (QUARTREE_GUESS_STACK_BYTES). Where
    no tree has a sheet's table, the program rebuild prints a guess, where it printed `refused 6`. Nothing else changes.
 
    From 0.4 to 0.5: an accepted quartree_import replies with its tree's origin as the figure: 512, where it was 0. No
@@ -44,6 +48,9 @@
    Standard listing. Its nodes are in post-order; of two children the one with the smaller least leaf comes first.
    Every tree has one standard listing, and two trees on the same leaves are the same exactly when their standard
    listings are equal. Other listings say nothing by their differences: for n = 4, 2 3 4 1 and 2 3 1 4 are one tree.
+
+   Edge. An edge is named by the node below it in the standard listing, whatever listing is lent: 1 to 2n-3. So a leaf
+   1 to n-1 names its own edge, and 2n-3 is the edge between the last node and leaf 0.
 
    Split. The set of leaves under an inner node other than the last. It is sixteen bytes (QUARTREE_SET_BYTES), one bit
    a leaf: leaf k is bit k mod 8 of byte k div 8, bit 0 the lowest. The bits from n on are 0.
@@ -72,6 +79,13 @@
    Total gap. Of a table and a tree: the sum, over all i < j, of how far cell (i,j) of the table is from that of the
    tree, or, of a poll's table, from six times that. It is below 2^45, and 0 exactly when the tree has the table. A
    guess need not be the tree with the smallest total gap.
+
+   Graft. Leaf n is put on an edge: a new node divides the edge in two, and an edge joins leaf n to that node. The tree
+   has n+1 leaves then, and any four of the old ones are paired as before ('grafted-paired').
+
+   Prune. A leaf is taken away, and so is the node that it was joined to, whose two other edges become one. Higher
+   leaves move down by one, so the tree has the leaves 0 to n-2 then. Leaf 0 may be pruned: what was leaf 1 is leaf 0
+   then, and the tree hangs from it. Any four leaves that stay are paired as before ('pruned-paired').
 
    Poll. One record a quartet: four leaves a < b < c < d and a pairing code. Codes 0, 1 and 2 are the pairings of
    a, b, c, d. The others are ties: 3 allows all three pairings, 4 allows 0 and 1, 5 allows 0 and 2, and 6 allows 1 and
@@ -103,7 +117,8 @@
    Tree record. A leaf count, a listing and an origin, which a caller keeps side by side; the part keeps none.
 
    Origin. Where the tree of a record came from: rebuilt from a table, listed (lent as a listing), imported from a text,
-   guessed from a table that no tree has, or grafted. No call of this version grafts. */
+   guessed from a table that no tree has, or grafted, which is told of every tree that was changed by a graft or by a
+   prune. */
 
 /* ---- Sizes ----------------------------------------------------------------------------------------------------------
 
@@ -122,6 +137,7 @@
 #define QUARTREE_LISTING_NUMBERS(n) (2 * ((size_t)(n) - 2)) /* uint16_t of a listing: two a row */
 #define QUARTREE_LISTING_BYTES(n) (4 * ((size_t)(n) - 2))   /* bytes of a listing, for quartree_rebuild_sheet */
 #define QUARTREE_TABLE_CELLS(n) ((size_t)(n) * (size_t)(n)) /* cells of a table, uint32_t or int64_t */
+#define QUARTREE_EDGES(n) (2 * (size_t)(n) - 3)             /* edges of a tree, and the greatest name of one */
 #define QUARTREE_SPLIT_BYTES(n) (QUARTREE_SET_BYTES * ((size_t)(n) - 3)) /* bytes of a tree's splits: a set each */
 #define QUARTREE_TEXT_BYTES(n) (43 * (size_t)(n) - 4)       /* bytes of an export, at most: with names of 40 bytes */
 #define QUARTREE_MERGES(n) ((size_t)(n) - 1)                /* merges that join n leaves */
@@ -149,9 +165,10 @@
    0. */
 enum quartree_refusal {
     QUARTREE_ACCEPTED = 0,
-    QUARTREE_REFUSED_LEAF_COUNT = 1,    /* leaf count outside 3..128 (polls and their tables 4..32) */
+    QUARTREE_REFUSED_LEAF_COUNT = 1,    /* leaf count outside 3..128 (polls and their tables 4..32), or that of the
+                                           grafted or pruned tree outside 3..128 */
     QUARTREE_REFUSED_INPUT_LENGTH = 2,  /* an input not exactly as long as the leaf count needs */
-    QUARTREE_REFUSED_OUTPUT_ROOM = 3,   /* output shorter than the result */
+    QUARTREE_REFUSED_OUTPUT_ROOM = 3,   /* an output shorter than its result */
     QUARTREE_REFUSED_DIAGONAL = 4,      /* diagonal cell not 0; the first such leaf */
     QUARTREE_REFUSED_HALVES = 5,        /* cells (i,j) and (j,i) unequal; 256*i + j, the first in row order, i < j */
     QUARTREE_REFUSED_NO_TREE = 6,       /* no binary tree on these leaves has the table: quartree_rebuild and
@@ -173,7 +190,8 @@ enum quartree_refusal {
     QUARTREE_REFUSED_GRAMMAR = 17,      /* text breaks the grammar or nests deeper than 127; the offset of the first
                                            byte that does, or the text's length if it stops early */
     QUARTREE_REFUSED_NOT_BINARY = 18,   /* bracket of the text has not two parts, nor three as the top */
-    QUARTREE_REFUSED_UNMATCHED = 19     /* name of the text unknown to the sheet, repeated or missing */
+    QUARTREE_REFUSED_UNMATCHED = 19,    /* name of the text unknown to the sheet, repeated or missing */
+    QUARTREE_REFUSED_NOT_OWN = 20       /* the edge or leaf named absent, or the table not the tree's own */
 };
 
 /* A text for each refusal's number, and for 0. */
@@ -183,11 +201,11 @@ static inline const char *quartree_refusal_text(unsigned number)
     case QUARTREE_ACCEPTED:
         return "accepted";
     case QUARTREE_REFUSED_LEAF_COUNT:
-        return "the leaf count is outside 3 to 128 (polls and their tables: 4 to 32)";
+        return "the leaf count is outside 3 to 128 (polls and their tables: 4 to 32), or the new tree's would be";
     case QUARTREE_REFUSED_INPUT_LENGTH:
         return "an input is not exactly as long as the leaf count needs";
     case QUARTREE_REFUSED_OUTPUT_ROOM:
-        return "the output is shorter than the result";
+        return "an output is shorter than its result";
     case QUARTREE_REFUSED_DIAGONAL:
         return "a cell on the diagonal is not 0";
     case QUARTREE_REFUSED_HALVES:
@@ -220,6 +238,8 @@ static inline const char *quartree_refusal_text(unsigned number)
         return "a node of the text is not binary, apart from a three-way top";
     case QUARTREE_REFUSED_UNMATCHED:
         return "the text's names are not the sheet's, each once";
+    case QUARTREE_REFUSED_NOT_OWN:
+        return "the tree has no such edge or leaf, or the table is not its own";
     default:
         return "no refusal has this number";
     }
@@ -228,10 +248,10 @@ static inline const char *quartree_refusal_text(unsigned number)
 /* ---- Origins --------------------------------------------------------------------------------------------------------
 
    Origins have the numbers 0 to 4. A number above 4 is taken as QUARTREE_LISTED. An accepted quartree_rebuild,
-   quartree_rebuild_guided, quartree_import or quartree_restandardise tells the origin of its tree as the figure, and an
-   accepted quartree_guess as QUARTREE_FIGURE_Y. Other figures are no origins: not that of a refused call, nor that of
-   quartree_check, though their 0 would read as QUARTREE_REBUILT; nor the whole figure of quartree_guess, which holds
-   the total gap too. */
+   quartree_rebuild_guided, quartree_import, quartree_restandardise, quartree_graft or quartree_prune tells the origin
+   of its tree as the figure, and an accepted quartree_guess as QUARTREE_FIGURE_Y. Other figures are no origins: not
+   that of a refused call, nor that of quartree_check, though their 0 would read as QUARTREE_REBUILT; nor the whole
+   figure of quartree_guess, which holds the total gap too. */
 
 #define QUARTREE_REBUILT 0
 #define QUARTREE_LISTED 1
@@ -265,6 +285,8 @@ static inline const char *quartree_origin_text(uint32_t origin)
      the tree's own ('made-rebuilt'). Listed and imported promise nothing of a table.
    - Guessed is told exactly where no tree has the table given ('guessed-exactly'), so the tree has it not. The tree is
      a proposal. By how much it is off is told beside the origin, and pair by pair by quartree_gap; no record keeps it.
+   - Grafted promises nothing of the table that an older record was rebuilt from; but the table that quartree_graft or
+     quartree_prune writes beside the tree is the tree's own.
    - quartree_restandardise keeps the tree and the origin ('restandardise-same').
    - A listing of the caller's own is filed as listed, once quartree_check accepts it.
    - The tree that quartree_rebuild_sheet writes may be filed as rebuilt, since it has the sheet's table; that call has
@@ -278,10 +300,12 @@ static inline const char *quartree_origin_text(uint32_t origin)
 
    - No pointer is null, also where its length is 0.
    - Lengths are true: from each pointer on there are as many elements as its length says, or more. A length counts
-     elements of its pointer's type; room is the length of the output.
+     elements of its pointer's type; room is the length of the output, and table_room that of an output for a table
+     beside it.
    - Pointers are aligned for their element type.
-   - An output overlaps no input of the same call. Inputs may overlap. An output may hold anything before the call.
-   - While a call runs, nobody else writes its inputs, or reads or writes its output.
+   - An output overlaps no input of the same call, and no other output of it. Inputs may overlap. An output may hold
+     anything before the call.
+   - While a call runs, nobody else writes its inputs, or reads or writes its outputs.
    - The stack has QUARTREE_STACK_BYTES left, for quartree_guess QUARTREE_GUESS_STACK_BYTES. No call takes more; this is
      measured, and not proved.
 
@@ -293,7 +317,7 @@ static inline const char *quartree_origin_text(uint32_t origin)
    - An input's length has to be exact (refusal 2), but that of a text, which may be any. An output may be longer than
      the result.
    - A refused call leaves every buffer as it was. An accepted call writes its result from the output's first element
-     on, and nothing beyond the result. Inputs are never written.
+     on, and nothing beyond the result; so it is with each of two outputs. Inputs are never written.
    - Whatever the numbers in the buffers are, the call ends, does not trap, and touches no memory but what it is lent
      and its own stack. It allocates nothing and keeps nothing for later calls, so calls may run in several threads at
      once.
@@ -384,6 +408,39 @@ uint64_t quartree_guess(size_t n, uint32_t poll, const uint32_t *table, size_t c
    the table, the same that quartree_rebuild writes, and the figure is QUARTREE_REBUILT. */
 uint64_t quartree_rebuild_guided(size_t n, uint32_t poll, const uint32_t *table, size_t cells, const uint16_t *merges,
                                  size_t len, uint16_t *out, size_t room);
+
+/* ---- Trees that change ----------------------------------------------------------------------------------------------
+
+   For a collection that adds and drops leaves, and keeps its table beside its tree. The tree is lent as a listing,
+   whose length, len, has to be QUARTREE_LISTING_NUMBERS(n), with its table, whose length, cells, has to be
+   QUARTREE_TABLE_CELLS(n). Nothing is changed in place: the new tree and the new table go to outputs of their own.
+
+   The table has to be the tree's own in every cell, as quartree_table writes it; else the call is refused by 20. A
+   poll's table is not, since it counts sixths; nor is the rough table that a tree was guessed from. The caller counts
+   the table of such a tree afresh first, by quartree_table.
+
+   Pruning the leaf just grafted gives back the old standard listing and the old table ('pruned-grafted'); the origin
+   stays grafted. Grafts on different edges are different trees ('grafted-once'), and every tree on n+1 leaves is a
+   graft of what pruning its leaf n leaves ('graft-of-prune'). */
+
+/* Grafts leaf n on an edge of a listing's tree.
+   Refused, in this order: 1, 2 (either input), 3 (either output), 7, 8, 4, 5, 20. Refusal 1 is given when n is not 3 to
+   127, since the new tree has n+1 leaves; 20 when edge is not 1 to QUARTREE_EDGES(n), or the table is not the tree's
+   own.
+   Accepted: the first QUARTREE_LISTING_NUMBERS(n + 1) numbers of out are the standard listing of the grafted tree, the
+   first QUARTREE_TABLE_CELLS(n + 1) cells of out_table are its table, as counted afresh, and the figure is
+   QUARTREE_GRAFTED. */
+uint64_t quartree_graft(size_t n, const uint16_t *listing, size_t len, const uint32_t *table, size_t cells, size_t edge,
+                        uint16_t *out, size_t room, uint32_t *out_table, size_t table_room);
+
+/* Prunes a leaf of a listing's tree.
+   Refused, in this order: 1, 2 (either input), 3 (either output), 7, 8, 4, 5, 20. Refusal 1 is given when n is not 4 to
+   128, since the new tree has n-1 leaves; 20 when leaf is not below n, or the table is not the tree's own.
+   Accepted: the first QUARTREE_LISTING_NUMBERS(n - 1) numbers of out are the standard listing of the pruned tree, the
+   first QUARTREE_TABLE_CELLS(n - 1) cells of out_table are its table, as counted afresh, and the figure is
+   QUARTREE_GRAFTED. */
+uint64_t quartree_prune(size_t n, const uint16_t *listing, size_t len, const uint32_t *table, size_t cells, size_t leaf,
+                        uint16_t *out, size_t room, uint32_t *out_table, size_t table_room);
 
 /* ---- Polls ------------------------------------------------------------------------------------------------------- */
 

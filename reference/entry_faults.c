@@ -26,6 +26,14 @@ uint64_t real_export(const uint8_t *sheet, size_t sheet_len, const uint16_t *lis
 uint64_t real_import(const uint8_t *sheet, size_t sheet_len, const uint8_t *text, size_t text_len, uint16_t *out,
                      size_t room);
 
+/* An entry that changes a tree kept with its table. */
+#define CHANGE(entry, named) \
+    uint64_t entry(size_t n, const uint16_t *listing, size_t len, const uint32_t *table, size_t cells, size_t named, \
+                   uint16_t *out, size_t room, uint32_t *out_table, size_t table_room)
+
+CHANGE(real_graft, edge);
+CHANGE(real_prune, leaf);
+
 #if FAULT == 1 /* check: the position counted from 1 */
 uint64_t quartree_check(size_t n, const uint16_t *listing, size_t len)
 {
@@ -739,6 +747,182 @@ uint64_t quartree_guess(size_t n, uint32_t poll, const uint32_t *table, size_t c
     uint32_t *lent = (uint32_t *)(uintptr_t)table;
     for (size_t cell = 0; NUMBER(reply) == QUARTREE_ACCEPTED && cell < cells; cell++)
         lent[cell] &= 0xFFFFFF;
+    return reply;
+}
+
+#elif FAULT == 91 /* graft: the origin left out of the figure */
+CHANGE(quartree_graft, edge)
+{
+    uint64_t reply = real_graft(n, listing, len, table, cells, edge, out, room, out_table, table_room);
+    return NUMBER(reply) == QUARTREE_ACCEPTED ? QUARTREE_ACCEPTED : reply;
+}
+
+#elif FAULT == 92 /* graft: the rooms exchanged */
+CHANGE(quartree_graft, edge)
+{
+    return real_graft(n, listing, len, table, cells, edge, out, table_room, out_table, room);
+}
+
+#elif FAULT == 93 /* graft: the edge in 16 bits */
+CHANGE(quartree_graft, edge)
+{
+    return real_graft(n, listing, len, table, cells, (uint16_t)edge, out, room, out_table, table_room);
+}
+
+#elif FAULT == 94 /* graft: the edge in 32 bits */
+CHANGE(quartree_graft, edge)
+{
+    return real_graft(n, listing, len, table, cells, (uint32_t)edge, out, room, out_table, table_room);
+}
+
+#elif FAULT == 95 /* graft: the edge behind the last taken for leaf 0's */
+CHANGE(quartree_graft, edge)
+{
+    return real_graft(n, listing, len, table, cells, edge - (edge == 2 * n - 2), out, room, out_table, table_room);
+}
+
+#elif FAULT == 96 /* graft: edge 0 taken for leaf 0's */
+CHANGE(quartree_graft, edge)
+{
+    return real_graft(n, listing, len, table, cells, edge == 0 ? 2 * n - 3 : edge, out, room, out_table, table_room);
+}
+
+#elif FAULT == 97 /* graft: the length of the table in 16 bits */
+CHANGE(quartree_graft, edge)
+{
+    return real_graft(n, listing, len, table, (uint16_t)cells, edge, out, room, out_table, table_room);
+}
+
+#elif FAULT == 98 /* graft: the room of the table taken for both */
+CHANGE(quartree_graft, edge)
+{
+    (void)room;
+    return real_graft(n, listing, len, table, cells, edge, out, table_room, out_table, table_room);
+}
+
+#elif FAULT == 99 /* graft: the table dropped */
+CHANGE(quartree_graft, edge)
+{
+    static uint32_t dropped[QUARTREE_TABLE_CELLS(QUARTREE_MOST_LEAVES)];
+    size_t most = QUARTREE_TABLE_CELLS(QUARTREE_MOST_LEAVES);
+    (void)out_table;
+    return real_graft(n, listing, len, table, cells, edge, out, room, dropped, table_room < most ? table_room : most);
+}
+
+#elif FAULT == 100 /* graft: the cell behind the table cleared */
+CHANGE(quartree_graft, edge)
+{
+    uint64_t reply = real_graft(n, listing, len, table, cells, edge, out, room, out_table, table_room);
+    if (NUMBER(reply) == QUARTREE_ACCEPTED && table_room > QUARTREE_TABLE_CELLS(n + 1))
+        out_table[QUARTREE_TABLE_CELLS(n + 1)] = 0;
+    return reply;
+}
+
+#elif FAULT == 101 /* graft: the first cells of the caller's table brought up to date, too */
+CHANGE(quartree_graft, edge)
+{
+    uint64_t reply = real_graft(n, listing, len, table, cells, edge, out, room, out_table, table_room);
+    uint32_t *lent = (uint32_t *)(uintptr_t)table;
+    for (size_t cell = 0; NUMBER(reply) == QUARTREE_ACCEPTED && cell < n; cell++)
+        lent[cell] = out_table[cell];
+    return reply;
+}
+
+#elif FAULT == 102 /* graft: a lent listing that is not standard refused */
+CHANGE(quartree_graft, edge)
+{
+    uint16_t standard[QUARTREE_LISTING_NUMBERS(QUARTREE_MOST_LEAVES)];
+    uint64_t reply = real_standardise(n, listing, len, standard, QUARTREE_LISTING_NUMBERS(QUARTREE_MOST_LEAVES));
+    for (size_t place = 0; NUMBER(reply) == QUARTREE_ACCEPTED && place < len; place++)
+        if (standard[place] != listing[place])
+            return QUARTREE_REFUSED_CHILD | (uint64_t)place << 8;
+    return real_graft(n, listing, len, table, cells, edge, out, room, out_table, table_room);
+}
+
+#elif FAULT == 103 /* prune: its tree told as listed */
+CHANGE(quartree_prune, leaf)
+{
+    uint64_t reply = real_prune(n, listing, len, table, cells, leaf, out, room, out_table, table_room);
+    return NUMBER(reply) == QUARTREE_ACCEPTED ? 256 * QUARTREE_LISTED : reply;
+}
+
+#elif FAULT == 104 /* prune: the result's leaf count in the origin's place */
+CHANGE(quartree_prune, leaf)
+{
+    uint64_t reply = real_prune(n, listing, len, table, cells, leaf, out, room, out_table, table_room);
+    return NUMBER(reply) == QUARTREE_ACCEPTED ? (uint64_t)(n - 1) << 8 : reply;
+}
+
+#elif FAULT == 105 /* prune: the leaf in 16 bits */
+CHANGE(quartree_prune, leaf)
+{
+    return real_prune(n, listing, len, table, cells, (uint16_t)leaf, out, room, out_table, table_room);
+}
+
+#elif FAULT == 106 /* prune: the leaf in 8 bits */
+CHANGE(quartree_prune, leaf)
+{
+    return real_prune(n, listing, len, table, cells, (uint8_t)leaf, out, room, out_table, table_room);
+}
+
+#elif FAULT == 107 /* prune: leaf 0 refused */
+CHANGE(quartree_prune, leaf)
+{
+    return real_prune(n, listing, len, table, cells, leaf == 0 ? n : leaf, out, room, out_table, table_room);
+}
+
+#elif FAULT == 108 /* prune: leaf n taken for the last */
+CHANGE(quartree_prune, leaf)
+{
+    return real_prune(n, listing, len, table, cells, leaf - (leaf == n), out, room, out_table, table_room);
+}
+
+#elif FAULT == 109 /* prune: the listing dropped */
+CHANGE(quartree_prune, leaf)
+{
+    uint16_t dropped[QUARTREE_LISTING_NUMBERS(QUARTREE_MOST_LEAVES)];
+    size_t most = QUARTREE_LISTING_NUMBERS(QUARTREE_MOST_LEAVES);
+    (void)out;
+    return real_prune(n, listing, len, table, cells, leaf, dropped, room < most ? room : most, out_table, table_room);
+}
+
+#elif FAULT == 110 /* prune: the number behind the listing cleared */
+CHANGE(quartree_prune, leaf)
+{
+    uint64_t reply = real_prune(n, listing, len, table, cells, leaf, out, room, out_table, table_room);
+    if (NUMBER(reply) == QUARTREE_ACCEPTED && room > QUARTREE_LISTING_NUMBERS(n - 1))
+        out[QUARTREE_LISTING_NUMBERS(n - 1)] = 0;
+    return reply;
+}
+
+#elif FAULT == 111 /* prune: the listing begun although the table has no room */
+CHANGE(quartree_prune, leaf)
+{
+    uint64_t reply = real_prune(n, listing, len, table, cells, leaf, out, room, out_table, table_room);
+    if (NUMBER(reply) == QUARTREE_REFUSED_OUTPUT_ROOM && room > 0)
+        out[0] = 1;
+    return reply;
+}
+
+#elif FAULT == 112 /* prune: the room of the listing in 16 bits */
+CHANGE(quartree_prune, leaf)
+{
+    return real_prune(n, listing, len, table, cells, leaf, out, (uint16_t)room, out_table, table_room);
+}
+
+#elif FAULT == 113 /* prune: the room of the table in 16 bits */
+CHANGE(quartree_prune, leaf)
+{
+    return real_prune(n, listing, len, table, cells, leaf, out, room, out_table, (uint16_t)table_room);
+}
+
+#elif FAULT == 114 /* prune: half a table */
+CHANGE(quartree_prune, leaf)
+{
+    uint64_t reply = real_prune(n, listing, len, table, cells, leaf, out, room, out_table, table_room);
+    for (size_t i = 0; NUMBER(reply) == QUARTREE_ACCEPTED && i < n - 1; i++)
+        for (size_t j = 0; j < i; j++)
+            out_table[(n - 1) * i + j] = 0;
     return reply;
 }
 #endif

@@ -5,6 +5,7 @@
 
 use crate::chance::Chance;
 use crate::every::Every;
+use crate::graft::{self, Changed, Kept};
 use crate::guess::{self, Guess};
 use crate::origin::{self, Origin, TreeRecord};
 use crate::part::{self, Cell, Lent};
@@ -34,10 +35,12 @@ pub enum Kind {
     RebuildSheet,
     Export,
     Import,
+    Graft,
+    Prune,
 }
 
 impl Kind {
-    pub const ALL: [Kind; 17] = [
+    pub const ALL: [Kind; 19] = [
         Kind::Check,
         Kind::Standardise,
         Kind::Restandardise,
@@ -55,6 +58,8 @@ impl Kind {
         Kind::RebuildSheet,
         Kind::Export,
         Kind::Import,
+        Kind::Graft,
+        Kind::Prune,
     ];
 
     pub fn name(self) -> &'static str {
@@ -76,6 +81,8 @@ impl Kind {
             Kind::RebuildSheet => "rebuild_sheet",
             Kind::Export => "export",
             Kind::Import => "import",
+            Kind::Graft => "graft",
+            Kind::Prune => "prune",
         }
     }
 
@@ -96,6 +103,7 @@ impl Kind {
             Kind::RebuildSheet => &[13, 1, 14, 3, 15, 16, 6],
             Kind::Export => &[13, 1, 2, 14, 7, 8, 15, 16, 3],
             Kind::Import => &[13, 1, 14, 3, 15, 16, 17, 18, 19],
+            Kind::Graft | Kind::Prune => &[1, 2, 3, 7, 8, 4, 5, 20],
         }
     }
 }
@@ -120,9 +128,11 @@ pub enum Case {
     RebuildSheet { sheet: Vec<u8>, room: usize },
     Export { sheet: Vec<u8>, listing: Vec<u16>, room: usize },
     Import { sheet: Vec<u8>, text: Vec<u8>, room: usize },
+    Graft(Kept),
+    Prune(Kept),
 }
 
-/// What part and reference agree on: the reply, and the cells written.
+/// What part and reference agree on: the reply, and the cells written, of one output after the other.
 #[derive(Debug, PartialEq, Eq)]
 pub struct Outcome {
     pub reply: u64,
@@ -199,6 +209,8 @@ impl Case {
             Case::RebuildSheet { .. } => Kind::RebuildSheet,
             Case::Export { .. } => Kind::Export,
             Case::Import { .. } => Kind::Import,
+            Case::Graft(_) => Kind::Graft,
+            Case::Prune(_) => Kind::Prune,
         }
     }
 
@@ -360,8 +372,38 @@ impl Case {
                 text.unchanged()?;
                 settle_record(got, due, &out)
             }
+            Case::Graft(kept) => {
+                let due = graft::graft(kept);
+                look_at_graft(kept, &due, chance)?;
+                compare_change(part::GRAFT, kept, due, chance)
+            }
+            Case::Prune(kept) => {
+                let due = graft::prune(kept);
+                look_at_prune(kept, &due, chance)?;
+                compare_change(part::PRUNE, kept, due, chance)
+            }
         }
     }
+}
+
+/// Puts a graft or a prune to the part.
+fn compare_change(
+    entry: part::Change,
+    kept: &Kept,
+    due: Answer<Changed>,
+    chance: &mut Chance,
+) -> Result<Outcome, String> {
+    let mut listing = Lent::input("listing", &kept.listing, chance);
+    let mut table = Lent::input("table", &kept.table, chance);
+    let mut out = Lent::output("standard listing", kept.room, chance);
+    let mut out_table = Lent::output("kept table", kept.table_room, chance);
+    let got = part::change(entry, kept.n, &mut listing, &mut table, kept.named, &mut out, &mut out_table);
+    listing.unchanged()?;
+    table.unchanged()?;
+    let cells = due.clone().map(|changed| (changed.record.origin.number(), changed.table));
+    let Outcome { reply, mut written } = settle_record(got, due.map(|changed| changed.record), &out)?;
+    written.extend(settle_output(got, cells, &out_table)?.written);
+    Ok(Outcome { reply, written })
 }
 
 /// The error of a reference that contradicts itself.
@@ -466,6 +508,54 @@ fn look_at_export(sheet: &[u8], listing: &[u16], due: &Answer<Vec<u8>>) -> Resul
     agreed(text.len() == names + 3 * n - 4, "length of an export")?;
     let standard = tree::standardise(n, listing, listing.len());
     agreed(listing_of(&newick::import(sheet, text, listing.len())) == standard, "import of an export")
+}
+
+/// A tree and the same one without a leaf pair alike the leaves that stay. A cell of the larger tree's table also
+/// counts the pairs that the leaf is in.
+fn look_at_smaller(
+    larger: &Tree,
+    leaf: usize,
+    listing: &[u16],
+    cells: &[u32],
+    chance: &mut Chance,
+) -> Result<(), String> {
+    let n = larger.leaves - 1;
+    let before = |after: usize| after + usize::from(after >= leaf);
+    let tree = Tree::from_listing(n, listing);
+    let alike = |four: [usize; 4]| tree.pairing(four) == larger.pairing(four.map(before));
+    match n {
+        3..=8 => agreed(table::quartets(n).all(alike), "pairing of leaves that stay")?,
+        _ => {
+            let order = chance.order(n);
+            agreed(alike([order[0], order[1], order[2], order[3]]), "pairing of four leaves that stay")?;
+        }
+    }
+    let (i, j) = (chance.below(n - 1), n - 1);
+    let with_leaf = |q: &usize| larger.pairs(before(i), before(j), leaf, before(*q));
+    let less = (0..n).filter(|&q| q != i && q != j).filter(with_leaf).count() as u32;
+    let cell = table::cell_by_pairs(larger, before(i), before(j));
+    agreed(cells[i * n + j] + less == cell, "cell without the pairs of a leaf")
+}
+
+/// Two leaves on one side of the edge are paired against one on the other side and the new leaf. Pruning this gives the
+/// tree back.
+fn look_at_graft(kept: &Kept, due: &Answer<Changed>, chance: &mut Chance) -> Result<(), String> {
+    let Ok(changed) = due else { return Ok(()) };
+    let (n, old) = (kept.n, Tree::from_listing(kept.n, &kept.listing));
+    let grafted = Tree::from_listing(n + 1, &changed.record.listing);
+    let edge = graft::edge_below(&old, kept.named).expect("the edge is there");
+    let (i, j, k) = (chance.below(n), chance.below(n), chance.below(n));
+    let below = |leaf: usize| edge & tree::single(leaf) != 0;
+    let apart = i != j && below(i) == below(j) && below(j) != below(k);
+    agreed(!apart || grafted.pairs(i, j, k, n), "place of the new leaf")?;
+    agreed(graft::without_leaf(&grafted, n) == old, "tree pruned of the new leaf")?;
+    look_at_smaller(&grafted, n, &kept.listing, &kept.table, chance)
+}
+
+/// The leaves that stay pair as before.
+fn look_at_prune(kept: &Kept, due: &Answer<Changed>, chance: &mut Chance) -> Result<(), String> {
+    let Ok(Changed { record, table }) = due else { return Ok(()) };
+    look_at_smaller(&Tree::from_listing(kept.n, &kept.listing), kept.named, &record.listing, table, chance)
 }
 
 /// How long a text may be of which every completion is tried.

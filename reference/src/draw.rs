@@ -5,6 +5,7 @@
 
 use crate::cases::{Case, Kind};
 use crate::chance::Chance;
+use crate::graft::Kept;
 use crate::merge::finished_list;
 use crate::part::Cell;
 use crate::poll::{poll, records_of, Record, LAST_CODE};
@@ -82,11 +83,7 @@ pub fn any_case(kind: Kind, chance: &mut Chance) -> Case {
         Kind::SheetName => {
             let n = good_count(chance);
             let sheet = lent_sheet(n, vec![0; n * n], chance);
-            let leaf = match chance.below(8) {
-                0 => chance.of(&[n, n + 1, n + 256, 256, 65_536, 1 << 32, usize::MAX]),
-                _ => chance.below(n),
-            };
-            Case::SheetName { sheet, leaf }
+            Case::SheetName { sheet, leaf: lent_number(n, chance) }
         }
         Kind::RebuildSheet => {
             let n = good_count(chance);
@@ -105,6 +102,16 @@ pub fn any_case(kind: Kind, chance: &mut Chance) -> Case {
             let sheet = mostly_good_sheet(n, chance);
             let text = texts::any_text(&any_tree(n, chance), &sheet, chance);
             Case::Import { sheet, text, room: lent_room(2 * (n - 2), chance) }
+        }
+        Kind::Graft => {
+            let n = lent_kept_count(chance);
+            let edge = lent_number(n.clamp(3, 128) * 2 - 3, chance).wrapping_add(1);
+            Case::Graft(lent_kept(n, edge, n.wrapping_add(1), chance))
+        }
+        Kind::Prune => {
+            let n = lent_kept_count(chance);
+            let leaf = lent_number(n.clamp(3, 128), chance);
+            Case::Prune(lent_kept(n, leaf, n.wrapping_sub(1), chance))
         }
     }
 }
@@ -147,6 +154,17 @@ fn lent_poll_count(chance: &mut Chance) -> usize {
     }
 }
 
+/// The leaf count of a tree with its table, which a case counts several times: mostly a small one.
+fn lent_kept_count(chance: &mut Chance) -> usize {
+    match chance.below(1000) {
+        0..=59 => chance.of(&BAD_COUNTS),
+        60 => chance.between(33, 64),
+        61..=69 => chance.between(15, 32),
+        70..=149 => chance.between(8, 14),
+        _ => chance.between(3, 7),
+    }
+}
+
 /// How many numbers a listing needs; something small for a count without a sensible length.
 fn listing_length(n: usize, chance: &mut Chance) -> usize {
     match n {
@@ -160,6 +178,14 @@ fn table_length(n: usize, chance: &mut Chance) -> usize {
     match n {
         0..=131 => n * n,
         _ => chance.below(8),
+    }
+}
+
+/// A number below a bound, mostly.
+fn lent_number(bound: usize, chance: &mut Chance) -> usize {
+    match chance.below(8) {
+        0 => chance.of(&[bound, bound + 1, bound + 256, 256, 65_536, 1 << 32, usize::MAX]),
+        _ => chance.below(bound),
     }
 }
 
@@ -252,15 +278,20 @@ fn lent_listing(n: usize, chance: &mut Chance) -> Vec<u16> {
         3..=128 => any_listing(&any_tree(n, chance), chance),
         _ => (0..listing_length(n, chance)).map(|_| chance.below(260) as u16).collect(),
     };
+    spoil_listing(n, &mut listing, chance);
+    listing
+}
+
+/// Every third time one child or two are spoilt, and now and then the length.
+fn spoil_listing(n: usize, listing: &mut Vec<u16>, chance: &mut Chance) {
     if chance.one_in(3) {
         for _ in 0..chance.between(1, 2) {
-            spoil_child(n, &mut listing, chance);
+            spoil_child(n, listing, chance);
         }
     }
     if chance.one_in(12) {
-        spoil_length(&mut listing, chance);
+        spoil_length(listing, chance);
     }
-    listing
 }
 
 /// Numbers of no origin, some of which have an origin's number in their low bits.
@@ -526,6 +557,12 @@ fn lent_table(drawn: Drawing, chance: &mut Chance) -> (usize, u32, Vec<u32>) {
         COUNTS if chance.below(40) > 0 => drawn(n, chance),
         _ => polled_table(drawn, n, chance),
     };
+    spoil_table(n, &mut cells, chance);
+    (n, poll, cells)
+}
+
+/// Now and then cells on the diagonal, in one half alone, or the length are spoilt.
+fn spoil_table(n: usize, cells: &mut Vec<u32>, chance: &mut Chance) {
     if is_good(n) && chance.one_in(8) {
         for _ in 0..chance.between(1, 2) {
             let leaf = chance.below(n);
@@ -539,9 +576,38 @@ fn lent_table(drawn: Drawing, chance: &mut Chance) -> (usize, u32, Vec<u32>) {
         }
     }
     if chance.one_in(12) {
-        spoil_length(&mut cells, chance);
+        spoil_length(cells, chance);
     }
-    (n, poll, cells)
+}
+
+/// A tree in any listing and its table, spoilt or not, with what is named and room for a result of so many leaves.
+fn lent_kept(n: usize, named: usize, result: usize, chance: &mut Chance) -> Kept {
+    let (mut listing, mut table) = match n {
+        3..=128 => {
+            let tree = any_tree(n, chance);
+            (any_listing(&tree, chance), kept_table(&tree, chance))
+        }
+        _ => (vec![1; listing_length(n, chance)], vec![0; table_length(n, chance)]),
+    };
+    if chance.one_in(2) {
+        spoil_listing(n, &mut listing, chance);
+        spoil_table(n, &mut table, chance);
+    }
+    let room = lent_room(listing_length(result, chance), chance);
+    Kept { n, listing, table, named, room, table_room: lent_room(table_length(result, chance), chance) }
+}
+
+/// The table of a tree, mostly; else with a cell or two changed, six times it, or any other.
+fn kept_table(tree: &Tree, chance: &mut Chance) -> Vec<u32> {
+    let (n, mut cells) = (tree.leaves, of_tree(tree));
+    match chance.below(20) {
+        0 | 1 => change_cell(&mut cells, n, chance),
+        2 => shift_two_cells(&mut cells, n, chance),
+        3 => return scaled(&cells, times(POLL)),
+        4 => return any_table(n, chance),
+        _ => {}
+    }
+    cells
 }
 
 /// A finished list of eligible merges of the table, each subtree named by any of its leaves, filled up to n−1 steps.

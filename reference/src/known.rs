@@ -4,9 +4,11 @@
 
 use crate::cases::{Case, Outcome};
 use crate::draw::NO_ORIGINS;
+use crate::graft::Kept;
 use crate::poll::Record;
 use crate::sheet;
-use crate::table::{put, quartets, scaled, COUNTS, POLL};
+use crate::table::{of_tree, put, quartets, scaled, COUNTS, POLL};
+use crate::tree::Tree;
 
 /// What the paper says of a case.
 pub enum Due {
@@ -23,6 +25,7 @@ pub const REBUILT: u64 = 0;
 const LISTED: u64 = 1;
 const IMPORTED: u64 = 2;
 pub const GUESSED: u64 = 3;
+pub const GRAFTED: u64 = 4;
 
 pub struct Known {
     pub name: &'static str,
@@ -58,6 +61,20 @@ fn table(n: usize, named: &[(usize, usize, u32)], rest: u32) -> Vec<u32> {
     cells
 }
 
+const P3_LISTING: [u16; 4] = [2, 3, 1, 4];
+
+/// The table of P3.
+fn p3() -> Vec<u32> {
+    table(4, &[(0, 1, 1), (2, 3, 1)], 0)
+}
+
+const P8_LISTING: [u16; 8] = [2, 3, 4, 5, 6, 7, 1, 8];
+
+/// The table of P8, whose tree has three pairs.
+fn p8() -> Vec<u32> {
+    table(6, &[(0, 1, 6), (2, 3, 6), (4, 5, 6)], 1)
+}
+
 /// The table of the paper's sheet.
 fn p7() -> Vec<u32> {
     table(5, &[(0, 1, 3), (0, 2, 1), (1, 2, 1), (2, 3, 1), (2, 4, 1), (3, 4, 3)], 0)
@@ -82,7 +99,7 @@ const PAPER_SHEET: [u8; 38] = [
 /// The export of its tree.
 const P7_TEXT: &[u8] = b"(a,b,(c,(d,e)));";
 
-fn wide<T: Copy + Into<i64>>(cells: &[T]) -> Vec<i64> {
+pub fn wide<T: Copy + Into<i64>>(cells: &[T]) -> Vec<i64> {
     cells.iter().map(|&cell| cell.into()).collect()
 }
 
@@ -149,6 +166,9 @@ pub fn known_cases() -> Vec<Known> {
     cases.extend(exports());
     cases.extend(imports());
     cases.extend(long_texts());
+    cases.extend(grafts());
+    cases.extend(prunes());
+    cases.extend(refused_changes());
     cases
 }
 
@@ -177,12 +197,12 @@ fn rebuilds() -> Vec<Known> {
     vec![
         rebuilt("P1", 3, table(3, &[], 0), &[1, 2]),
         refused("P2", 3, table(3, &[(0, 1, 1)], 0), 6, 0),
-        rebuilt("P3", 4, table(4, &[(0, 1, 1), (2, 3, 1)], 0), &[2, 3, 1, 4]),
+        rebuilt("P3", 4, p3(), &P3_LISTING),
         rebuilt("P4", 4, table(4, &[(0, 2, 1), (1, 3, 1)], 0), &[1, 3, 4, 2]),
         refused("P5", 4, table(4, &[], 0), 6, 0),
         refused("P6", 4, table(4, &[(0, 1, 1)], 0), 6, 0),
         rebuilt("P7", 5, p7(), &P7_LISTING),
-        rebuilt("P8", 6, table(6, &[(0, 1, 6), (2, 3, 6), (4, 5, 6)], 1), &[2, 3, 4, 5, 6, 7, 1, 8]),
+        rebuilt("P8", 6, p8(), &P8_LISTING),
         guided("P12", [3, 4, 0, 1, 2, 3, 0, 2], Due::Written(REBUILT, wide(&P7_LISTING))),
         guided("P12 guided from 0 2", [0, 2, 3, 4, 0, 1, 2, 3], Due::Refused(12, 0)),
         guided("P12 with one subtree twice at step 2", [3, 4, 0, 1, 4, 3, 0, 2], Due::Refused(12, 2)),
@@ -224,10 +244,10 @@ fn guesses() -> Vec<Known> {
     unequal[5 * 6 + 1] = 1;
     vec![
         exact("P1 guessed", 3, table(3, &[], 0), &[1, 2]),
-        exact("P3 guessed", 4, table(4, &[(0, 1, 1), (2, 3, 1)], 0), &[2, 3, 1, 4]),
+        exact("P3 guessed", 4, p3(), &P3_LISTING),
         exact("P4 guessed", 4, table(4, &[(0, 2, 1), (1, 3, 1)], 0), &[1, 3, 4, 2]),
         exact("P7 guessed", 5, p7(), &P7_LISTING),
-        exact("P8 guessed", 6, table(6, &[(0, 1, 6), (2, 3, 6), (4, 5, 6)], 1), &[2, 3, 4, 5, 6, 7, 1, 8]),
+        exact("P8 guessed", 6, p8(), &P8_LISTING),
         guessed("P2 guessed", COUNTS, 3, table(3, &[(0, 1, 1)], 0), &[1, 2], 1),
         guessed("P5 guessed", COUNTS, 4, table(4, &[], 0), &[2, 3, 1, 4], 2),
         guessed("P6 guessed", COUNTS, 4, table(4, &[(0, 1, 1)], 0), &[2, 3, 1, 4], 1),
@@ -372,6 +392,8 @@ fn counts() -> Vec<Known> {
             Case::RebuildSheet { sheet: trailer(n as u16, 0), room },
             Case::Export { sheet: trailer(n as u16, 0), listing: vec![1; 2 * (n - 2)], room },
             Case::Import { sheet: trailer(n as u16, 0), text: P7_TEXT.into(), room },
+            Case::Graft(kept(n, &vec![1; 2 * (n - 2)], vec![0; n * n], 1)),
+            Case::Prune(kept(n, &vec![1; 2 * (n - 2)], vec![0; n * n], 1)),
         ];
         known.extend(cases.map(|case| Known { name: "leaf counts 2 and 129", case, due: Due::Refused(1, 0) }));
     }
@@ -413,6 +435,10 @@ fn lengths() -> Vec<Known> {
         Case::Guess { n, poll: COUNTS, table: longer(&table), room: 6 },
         Case::Poll { n, records: longer(&p7_poll()), room: 25 },
         Case::Export { sheet: PAPER_SHEET.into(), listing: longer(&listing), room: P7_TEXT.len() },
+        Case::Graft(kept(n, &longer(&listing), table.clone(), 1)),
+        Case::Graft(kept(n, &listing, longer(&table), 1)),
+        Case::Prune(kept(n, &longer(&listing), table.clone(), 1)),
+        Case::Prune(kept(n, &listing, longer(&table), 1)),
     ];
     let sheets = [
         Case::CheckSheet { sheet: longer(&PAPER_SHEET) },
@@ -425,7 +451,11 @@ fn lengths() -> Vec<Known> {
     let (rows, cells, sixths) = (wide(&listing), wide(&table), wide(&scaled(&table, 6)));
     let bytes: Vec<i64> = rows.iter().flat_map(|&child| [child, 0]).collect();
     let (export, text) = (Due::Written(P7_TEXT.len() as u64, wide(P7_TEXT)), P7_TEXT.to_vec());
+    let roomy =
+        |n, listing: &[u16], table, named| Kept { room: FAR, table_room: FAR, ..kept(n, listing, table, named) };
     let rooms = [
+        (Case::Graft(roomy(4, &P3_LISTING, p3(), 3)), changed(&P7_LISTING, &table)),
+        (Case::Prune(roomy(n, &listing, table.clone(), 0)), changed(&P3_LISTING, &p3())),
         (Case::Export { sheet: PAPER_SHEET.into(), listing: listing.clone(), room: FAR }, export),
         (Case::Import { sheet: PAPER_SHEET.into(), text, room: FAR }, Due::Written(IMPORTED, rows.clone())),
         (Case::Standardise { n, listing: listing.clone(), room: FAR }, Due::Written(0, rows.clone())),
@@ -445,6 +475,150 @@ fn lengths() -> Vec<Known> {
     known.extend(sheets.map(|case| Known { name: "a sheet too long by 65,536", case, due: Due::Refused(13, 0) }));
     known.extend(rooms.map(|(case, due)| Known { name: "room for 65,536", case, due }));
     known
+}
+
+/// A tree and its table with more room than a change of it needs.
+fn kept(n: usize, listing: &[u16], table: Vec<u32>, named: usize) -> Kept {
+    Kept { n, listing: listing.into(), table, named, room: 2 * n, table_room: (n + 2) * (n + 2) }
+}
+
+/// What a graft or a prune writes.
+fn changed(listing: &[u16], table: &[u32]) -> Due {
+    Due::Written(GRAFTED, [wide(listing), wide(table)].concat())
+}
+
+/// The beginning of what it writes: the listing.
+fn changed_listing(listing: &[u16]) -> Due {
+    Due::Cells(GRAFTED, wide(listing).into_iter().enumerate().collect())
+}
+
+/// Grafts on every edge of three leaves, and on leaves' and nodes' edges of P3's, P7's and P8's trees.
+fn grafts() -> Vec<Known> {
+    let graft = |name, n, listing: &[u16], table, edge, due| Known {
+        name,
+        case: Case::Graft(kept(n, listing, table, edge)),
+        due,
+    };
+    let three = |name, edge, due| graft(name, 3, &[1, 2], vec![0; 9], edge, due);
+    let p7_edge = |name, edge, due| graft(name, 5, &P7_LISTING, p7(), edge, due);
+    let largest = of_tree(&Tree::from_listing(127, &comb(127)));
+    vec![
+        three("edge 1 of three leaves", 1, changed(&[1, 3, 4, 2], &table(4, &[(0, 2, 1), (1, 3, 1)], 0))),
+        three("edge 2 of three leaves", 2, changed(&P3_LISTING, &p3())),
+        three("leaf 0's edge of three leaves", 3, changed(&[1, 2, 4, 3], &table(4, &[(0, 3, 1), (1, 2, 1)], 0))),
+        three("no edge 0", 0, Due::Refused(20, 0)),
+        three("no edge 4 of three leaves", 4, Due::Refused(20, 0)),
+        graft("P7's tree from P3's", 4, &P3_LISTING, p3(), 3, changed(&P7_LISTING, &p7())),
+        p7_edge("a node's edge", 5, changed_listing(&[3, 4, 6, 5, 2, 7, 1, 8])),
+        p7_edge("leaf 0's edge", 7, changed_listing(&[3, 4, 2, 6, 1, 7, 8, 5])),
+        p7_edge("no edge 8 of five leaves", 8, Due::Refused(20, 0)),
+        p7_edge("no edge in 16 bits", FAR + 1, Due::Refused(20, 0)),
+        p7_edge("no edge in 32 bits", (1 << 32) + 1, Due::Refused(20, 0)),
+        p7_edge("no edge at all", usize::MAX, Due::Refused(20, 0)),
+        graft("an edge of P8's tree", 6, &P8_LISTING, p8(), 6, changed_listing(&[2, 3, 7, 6, 4, 5, 8, 9, 1, 10])),
+        graft(
+            "the same edge, where the listing lent has another node of that number",
+            6,
+            &[4, 5, 2, 3, 6, 7, 1, 8],
+            p8(),
+            6,
+            changed_listing(&[2, 3, 7, 6, 4, 5, 8, 9, 1, 10]),
+        ),
+        graft("the last leaf", 127, &comb(127), largest, 126, changed_listing(&comb(128))),
+    ]
+}
+
+/// Prunes of P7's and P8's trees, and of the largest comb.
+fn prunes() -> Vec<Known> {
+    let prune = |name, n, listing: &[u16], table, leaf, due| Known {
+        name,
+        case: Case::Prune(kept(n, listing, table, leaf)),
+        due,
+    };
+    let p7_leaf = |leaf| prune("a leaf of P7's tree", 5, &P7_LISTING, p7(), leaf, changed(&P3_LISTING, &p3()));
+    let p8_leaf = |name, leaf, due| prune(name, 6, &P8_LISTING, p8(), leaf, due);
+    let pairs_and_leaf_0 = table(5, &[(1, 2, 3), (3, 4, 3), (0, 1, 1), (0, 2, 1), (0, 3, 1), (0, 4, 1)], 0);
+    let absent = |leaf| p8_leaf("no such leaf", leaf, Due::Refused(20, 0));
+    let largest = of_tree(&Tree::from_listing(128, &comb(128)));
+    let four = |name, leaf| prune(name, 4, &P3_LISTING, p3(), leaf, changed(&[1, 2], &[0; 9]));
+    vec![
+        p7_leaf(0),
+        p7_leaf(1),
+        p7_leaf(2),
+        p7_leaf(3),
+        p7_leaf(4),
+        p8_leaf("leaf 0 of P8's tree", 0, changed(&[1, 2, 3, 4, 5, 6], &pairs_and_leaf_0)),
+        p8_leaf("leaf 1 of P8's tree", 1, changed(&[1, 2, 3, 4, 5, 6], &pairs_and_leaf_0)),
+        p8_leaf("leaf 2 of P8's tree", 2, changed_listing(&[3, 4, 2, 5, 1, 6])),
+        four("leaf 0 of four", 0),
+        four("leaf 3 of four", 3),
+        absent(6),
+        absent(7),
+        absent(256),
+        absent(FAR),
+        absent(1 << 32),
+        absent(usize::MAX),
+        prune("leaf 127", 128, &comb(128), largest.clone(), 127, changed_listing(&comb(127))),
+        prune("leaf 0 of 128", 128, &comb(128), largest, 0, changed_listing(&comb(127))),
+    ]
+}
+
+/// Something that is wrong with a change of P7's tree: number, figure, and how it comes about.
+type Wrong = (u64, u64, fn(&mut Kept));
+
+/// All that can be wrong with a graft and with a prune, in the order in which it is judged.
+const WRONG: [Wrong; 20] = [
+    (1, 0, |kept| kept.n = 2),
+    (1, 0, |kept| kept.n = 129),
+    (2, 0, |kept| kept.listing.truncate(5)),
+    (2, 0, |kept| kept.listing.push(1)),
+    (2, 0, |kept| kept.table.truncate(24)),
+    (2, 0, |kept| kept.table.push(0)),
+    (3, 0, |kept| kept.room = 3),
+    (3, 0, |kept| kept.table_room = 15),
+    (7, 1, |kept| kept.listing[1] = 0),
+    (8, 3, |kept| kept.listing[3] = 3),
+    (7, 4, |kept| kept.listing[4] = 7),
+    (4, 3, |kept| kept.table[3 * 5 + 3] = 1),
+    (4, 4, |kept| kept.table[4 * 5 + 4] = u32::MAX),
+    (5, 256 + 3, |kept| kept.table[3 * 5 + 1] = 1),
+    (5, 3 * 256 + 4, |kept| kept.table[3 * 5 + 4] = 2),
+    (20, 0, |kept| kept.named = 8),
+    (20, 0, |kept| put(&mut kept.table, 5, (0, 1), 4)),
+    (20, 0, |kept| put(&mut kept.table, 5, (3, 4), 4)),
+    (20, 0, |kept| put(&mut kept.table, 5, (0, 4), 1 << 16)),
+    (20, 0, |kept| kept.table = scaled(&kept.table, 6)),
+];
+
+/// Each of these alone and with each that is judged later; and what the result's leaf count and its room decide.
+fn refused_changes() -> Vec<Known> {
+    let p7_kept = || kept(5, &P7_LISTING, p7(), 4);
+    let mut cases = Vec::new();
+    for (place, &(number, figure, spoil)) in WRONG.iter().enumerate() {
+        for later in place..WRONG.len() {
+            let mut wrong = p7_kept();
+            if later > place {
+                WRONG[later].2(&mut wrong);
+            }
+            spoil(&mut wrong);
+            cases.push((Case::Graft(wrong.clone()), Due::Refused(number, figure)));
+            cases.push((Case::Prune(wrong), Due::Refused(number, figure)));
+        }
+    }
+    let too_many = kept(128, &comb(128), of_tree(&Tree::from_listing(128, &comb(128))), 1);
+    cases.push((Case::Graft(Kept { table: vec![0; 3], ..too_many.clone() }), Due::Refused(1, 0)));
+    cases.push((Case::Graft(too_many), Due::Refused(1, 0)));
+    cases.push((Case::Prune(kept(3, &[1, 2], vec![0; 9], 1)), Due::Refused(1, 0)));
+    cases.push((Case::Prune(kept(3, &[1], vec![0; 9], 1)), Due::Refused(1, 0)));
+    for (room, table_room) in [(7, 36), (8, 35), (7, 60)] {
+        cases.push((Case::Graft(Kept { room, table_room, ..p7_kept() }), Due::Refused(3, 0)));
+    }
+    for (room, table_room) in [(3, 16), (4, 15), (3, 60)] {
+        cases.push((Case::Prune(Kept { room, table_room, ..p7_kept() }), Due::Refused(3, 0)));
+    }
+    let fitting = Kept { room: 4, table_room: 16, ..p7_kept() };
+    cases.push((Case::Prune(fitting), changed(&P3_LISTING, &p3())));
+    cases.into_iter().map(|(case, due)| Known { name: "what is wrong with a change", case, due }).collect()
 }
 
 fn polls() -> Vec<Known> {

@@ -2,9 +2,10 @@
 //!
 //! `reference [N [SEED]]` compares, in this order: the paper's own cases; every tree of 3 to 6 leaves, its records also
 //! handed from one operation to the next, and one of every shape of 32, 127 and 128; the polls of trees' own pairings;
-//! guesses of small tables and of rough ones; every listing, question, list of proposals and poll of very few, every
-//! text of up to six bytes and every text close to a right one; and N rounds (20,000 if not given) from SEED on (1 if
-//! not given), each with one case of every kind; what these guesses make is handed on.
+//! guesses of small tables and of rough ones; grafts and prunes of large trees, and a walk of them; every listing,
+//! question, list of proposals and poll of very few, every text of up to six bytes and every text close to a right one;
+//! and N rounds (20,000 if not given) from SEED on (1 if not given), each with one case of every kind; what these
+//! guesses make is handed on.
 //! It also tries demand 3 on the reference's own merging, over every finished list of small tables. The first
 //! difference stops it.
 
@@ -12,6 +13,7 @@ mod cases;
 mod chance;
 mod draw;
 mod every;
+mod graft;
 mod guess;
 mod known;
 mod merge;
@@ -23,6 +25,7 @@ mod poll;
 mod refuse;
 mod sheet;
 mod small;
+mod strains;
 mod table;
 mod texts;
 mod tree;
@@ -31,7 +34,7 @@ mod watch;
 use cases::{Case, Kind, Outcome};
 use chance::Chance;
 use every::Every;
-use known::{known_cases, Due, Known, GUESSED, REBUILT};
+use known::{known_cases, wide, Due, Known, GUESSED, REBUILT};
 use std::collections::BTreeMap;
 use std::process::exit;
 use std::time::Instant;
@@ -92,6 +95,8 @@ impl Comparison {
         self.large_trees()?;
         self.own_polls()?;
         self.guesses()?;
+        self.large_changes()?;
+        self.walk()?;
         self.every_input()?;
         if !self.noted {
             let tried = self.every.try_demand_3(DRAWN_TABLES)?;
@@ -114,7 +119,7 @@ impl Comparison {
     }
 
     /// Puts one case, and counts the number it is answered by.
-    fn put(&mut self, case: &Case, origin: &str, chance: &mut Chance) -> Result<Outcome, String> {
+    pub fn put(&mut self, case: &Case, origin: &str, chance: &mut Chance) -> Result<Outcome, String> {
         let name = case.kind().name();
         if self.noted {
             watch::note(&format!("{origin}, {name}: {}", shown(case)));
@@ -144,7 +149,7 @@ impl Comparison {
     }
 
     /// Puts a case of which the paper says what is due.
-    fn put_known(&mut self, known: &Known, origin: &str, chance: &mut Chance) -> Result<(), String> {
+    pub fn put_known(&mut self, known: &Known, origin: &str, chance: &mut Chance) -> Result<(), String> {
         let outcome = self.put(&known.case, origin, chance)?;
         if !known.due.agrees(&outcome) {
             return Err(format!("{}: the paper says otherwise than {outcome:?}", known.name));
@@ -171,13 +176,15 @@ impl Comparison {
 
     /// Hands the record that a case has made to the next operation. Restandardised from any listing of its tree it is
     /// the same record. Its gaps to the table given add up to the total that comes with a guess; they are 0 where it is
-    /// marked rebuilt, and nowhere else.
-    fn hand_on(&mut self, case: &Case, made: Outcome, origin: &str, chance: &mut Chance) -> Result<(), String> {
+    /// marked rebuilt, and nowhere else. What grafts and prunes make has a table of its own.
+    pub fn hand_on(&mut self, case: &Case, made: Outcome, origin: &str, chance: &mut Chance) -> Result<(), String> {
         let given = match case {
             Case::Rebuild { poll, table, .. } | Case::Guided { poll, table, .. } | Case::Guess { poll, table, .. } => {
                 Some((*poll, table.clone()))
             }
             Case::Import { .. } => None,
+            Case::Graft(kept) => return self.hand_on_change(kept, kept.n + 1, made, origin, chance),
+            Case::Prune(kept) => return self.hand_on_change(kept, kept.n - 1, made, origin, chance),
             _ => return Ok(()),
         };
         if made.reply & 0xFF != 0 {
@@ -185,10 +192,7 @@ impl Comparison {
         }
         let (mark, total, n) = (made.reply >> 8 & 0xFF, made.reply >> 16, made.written.len() / 2 + 2);
         let listing: Vec<u16> = made.written.iter().map(|&child| child as u16).collect();
-        let other = draw::any_listing(&Tree::from_listing(n, &listing), chance);
-        let again = Case::Restandardise { n, origin: mark as u32, listing: other, room: listing.len() };
-        let due = Due::Written(mark, made.written.clone());
-        self.put_known(&Known { name: "a record restandardised", case: again, due }, origin, chance)?;
+        self.restandardise(n, mark, &listing, origin, chance)?;
         let Some((poll, table)) = given else {
             return match mark {
                 REBUILT => Err(format!("{origin}: a record is marked rebuilt, and no table was given")),
@@ -207,6 +211,21 @@ impl Comparison {
         }
     }
 
+    /// A record is the same when it is restandardised from any listing of its tree.
+    pub fn restandardise(
+        &mut self,
+        n: usize,
+        mark: u64,
+        listing: &[u16],
+        origin: &str,
+        chance: &mut Chance,
+    ) -> Result<(), String> {
+        let other = draw::any_listing(&Tree::from_listing(n, listing), chance);
+        let case = Case::Restandardise { n, origin: mark as u32, listing: other, room: listing.len() };
+        let due = Due::Written(mark, wide(listing));
+        self.put_known(&Known { name: "a record restandardised", case, due }, origin, chance)
+    }
+
     /// Rebuilds the table that a guess was given: 6 exactly where it is marked guessed, else the same tree. Then rebuilds
     /// the table that its tree has: the same listing.
     fn rebuild_guess(
@@ -220,7 +239,7 @@ impl Comparison {
         chance: &mut Chance,
     ) -> Result<(), String> {
         let room = listing.len();
-        let same = || Due::Written(REBUILT, listing.iter().map(|&child| child.into()).collect());
+        let same = || Due::Written(REBUILT, wide(&listing));
         let due = if mark == GUESSED { Due::Refused(6, 0) } else { same() };
         let case = Case::Rebuild { n, poll, table, room };
         self.put_known(&Known { name: "the table of a guess rebuilt", case, due }, origin, chance)?;

@@ -3,6 +3,7 @@
 use crate::cases::Case;
 use crate::chance::Chance;
 use crate::draw;
+use crate::graft::Kept;
 use crate::known::{Due, Known, REBUILT};
 use crate::poll::{poll, LAST_CODE};
 use crate::table::{self, COUNTS, POLL};
@@ -31,7 +32,49 @@ fn guided(n: usize, poll: u32, table: &[u32], chance: &mut Chance) -> Vec<Case> 
     (0..5).map(case).collect()
 }
 
-/// One case or more of every operation for a tree, all accepted.
+/// Edges of a tree: all, and numbers that no edge has, where there are few leaves; else some, or one.
+fn edges(n: usize, chance: &mut Chance) -> Vec<usize> {
+    let last = 2 * n - 3;
+    let some = [chance.between(1, n - 1), chance.between(n, last), last];
+    match n {
+        3..=6 => (0..=last + 1).chain([last + 256, (1 << 16) + 1, (1 << 32) + 1, usize::MAX]).collect(),
+        7..=64 => some.to_vec(),
+        _ => vec![chance.of(&some)],
+    }
+}
+
+/// Leaves of a tree and numbers that no leaf has, likewise.
+fn leaves(n: usize, chance: &mut Chance) -> Vec<usize> {
+    let some = [0, chance.between(1, n - 2), n - 1];
+    match n {
+        3..=6 => (0..=n).chain([256, 1 << 16, 1 << 32, usize::MAX]).collect(),
+        7..=64 => some.to_vec(),
+        _ => vec![chance.of(&some)],
+    }
+}
+
+/// A tree and its table in the standard listing or in another, in both where there are few leaves.
+fn lent(tree: &Tree, table: &[u32], named: usize, result: usize, chance: &mut Chance) -> Vec<Kept> {
+    let mut listings = vec![draw::any_listing(tree, chance), tree.standard_listing()];
+    chance.shuffle(&mut listings);
+    listings.truncate(if tree.leaves <= 6 { 2 } else { 1 });
+    listings.into_iter().map(|listing| Kept::with_room(listing, table.to_vec(), named, result)).collect()
+}
+
+/// Grafts and prunes of a tree.
+pub fn changes(tree: &Tree, table: &[u32], chance: &mut Chance) -> Vec<Case> {
+    let (n, mut cases) = (tree.leaves, Vec::new());
+    for edge in edges(n, chance) {
+        cases.extend(lent(tree, table, edge, n + 1, chance).into_iter().map(Case::Graft));
+    }
+    for leaf in leaves(n, chance) {
+        cases.extend(lent(tree, table, leaf, n - 1, chance).into_iter().map(Case::Prune));
+    }
+    cases
+}
+
+/// One case or more of every operation for a tree, all accepted but the grafts and prunes that name what is not there
+/// or whose result has too few leaves or too many.
 pub fn cases_of_tree(tree: &Tree, chance: &mut Chance) -> Vec<Case> {
     let n = tree.leaves;
     let (cells, children) = (n * n, 2 * (n - 2));
@@ -65,6 +108,7 @@ pub fn cases_of_tree(tree: &Tree, chance: &mut Chance) -> Vec<Case> {
         let text = texts::right_text(tree, &sheet, chance);
         Case::Import { sheet: sheet.clone(), text, room: children }
     }));
+    cases.extend(changes(tree, &table, chance));
     cases.extend([
         Case::Guess { n, poll: COUNTS, table: table.clone(), room: children },
         Case::Rebuild { n, poll: COUNTS, table, room: children },

@@ -1,7 +1,7 @@
 //! Tree records: a leaf count, a listing and an origin, which says where the tree came from.
 //!
 //! Both rebuilds mark rebuilt, a lent listing is listed, an import imported; a guess is guessed, where no tree has the
-//! table and nowhere else; restandardising a tree keeps its origin. Grafted is for later operations.
+//! table and nowhere else; a graft and a prune make a tree grafted; restandardising a tree keeps its origin.
 
 use crate::refuse::Answer;
 use crate::tree;

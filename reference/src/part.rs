@@ -72,6 +72,30 @@ unsafe extern "C" {
         out: *mut u16,
         room: usize,
     ) -> u64;
+    fn quartree_graft(
+        n: usize,
+        listing: *const u16,
+        len: usize,
+        table: *const u32,
+        cells: usize,
+        edge: usize,
+        out: *mut u16,
+        room: usize,
+        out_table: *mut u32,
+        table_room: usize,
+    ) -> u64;
+    fn quartree_prune(
+        n: usize,
+        listing: *const u16,
+        len: usize,
+        table: *const u32,
+        cells: usize,
+        leaf: usize,
+        out: *mut u16,
+        room: usize,
+        out_table: *mut u32,
+        table_room: usize,
+    ) -> u64;
 }
 
 /// How many cells a guard has at least.
@@ -240,10 +264,33 @@ pub fn import(sheet: &mut Lent<u8>, text: &mut Lent<u8>, out: &mut Lent<u16>) ->
     unsafe { quartree_import(sheet.pointer(), bytes, text.pointer(), text_bytes, out.pointer(), out.len()) }
 }
 
+/// What the entries of a graft and of a prune both take.
+pub type Change =
+    unsafe extern "C" fn(usize, *const u16, usize, *const u32, usize, usize, *mut u16, usize, *mut u32, usize) -> u64;
+
+pub const GRAFT: Change = quartree_graft;
+pub const PRUNE: Change = quartree_prune;
+
+/// A graft on the edge named, or a prune of the leaf.
+pub fn change(
+    entry: Change,
+    n: usize,
+    listing: &mut Lent<u16>,
+    table: &mut Lent<u32>,
+    named: usize,
+    out: &mut Lent<u16>,
+    out_table: &mut Lent<u32>,
+) -> u64 {
+    let (children, cells, room, table_room) = (listing.len(), table.len(), out.len(), out_table.len());
+    let (listing, table) = (listing.pointer(), table.pointer());
+    unsafe { entry(n, listing, children, table, cells, named, out.pointer(), room, out_table.pointer(), table_room) }
+}
+
 /// The entries made of the reference's own operations.
 #[cfg(own)]
 mod own {
     use crate::chance::Chance;
+    use crate::graft::{graft, prune, Changed, Kept};
     use crate::guess::{self, Guess};
     use crate::origin::{restandardise, Origin, TreeRecord};
     use crate::poll::Record;
@@ -264,6 +311,29 @@ mod own {
     unsafe fn give_record(answer: Answer<TreeRecord>, out: *mut u16, room: usize) -> u64 {
         let origin = answer.as_ref().map_or(0, |record| record.origin.number());
         unsafe { give(answer.map(|record| record.listing), out, room) | origin << 8 }
+    }
+
+    /// A tree and its table as they are lent.
+    unsafe fn lent_kept(
+        n: usize,
+        (listing, len): (*const u16, usize),
+        (table, cells): (*const u32, usize),
+        named: usize,
+        (room, table_room): (usize, usize),
+    ) -> Kept {
+        let (listing, table) = unsafe { (from_raw_parts(listing, len), from_raw_parts(table, cells)) };
+        Kept { n, listing: listing.to_vec(), table: table.to_vec(), named, room, table_room }
+    }
+
+    /// Writes an accepted tree's listing and table, and tells its origin.
+    unsafe fn give_change(
+        answer: Answer<Changed>,
+        (out, room): (*mut u16, usize),
+        (out_table, table_room): (*mut u32, usize),
+    ) -> u64 {
+        let table = answer.as_ref().map(|changed| changed.table.clone()).map_err(|&refusal| refusal);
+        unsafe { give(table, out_table, table_room) };
+        unsafe { give_record(answer.map(|changed| changed.record), out, room) }
     }
 
     fn own_choice() -> Chance {
@@ -467,5 +537,39 @@ mod own {
     ) -> u64 {
         let (sheet, text) = unsafe { (from_raw_parts(sheet, sheet_len), from_raw_parts(text, text_len)) };
         unsafe { give_record(newick::import(sheet, text, room), out, room) }
+    }
+
+    #[no_mangle]
+    pub unsafe extern "C" fn quartree_graft(
+        n: usize,
+        listing: *const u16,
+        len: usize,
+        table: *const u32,
+        cells: usize,
+        edge: usize,
+        out: *mut u16,
+        room: usize,
+        out_table: *mut u32,
+        table_room: usize,
+    ) -> u64 {
+        let kept = unsafe { lent_kept(n, (listing, len), (table, cells), edge, (room, table_room)) };
+        unsafe { give_change(graft(&kept), (out, room), (out_table, table_room)) }
+    }
+
+    #[no_mangle]
+    pub unsafe extern "C" fn quartree_prune(
+        n: usize,
+        listing: *const u16,
+        len: usize,
+        table: *const u32,
+        cells: usize,
+        leaf: usize,
+        out: *mut u16,
+        room: usize,
+        out_table: *mut u32,
+        table_room: usize,
+    ) -> u64 {
+        let kept = unsafe { lent_kept(n, (listing, len), (table, cells), leaf, (room, table_room)) };
+        unsafe { give_change(prune(&kept), (out, room), (out_table, table_room)) }
     }
 }

@@ -2,15 +2,15 @@
 //!
 //! Sizes go first: 13, 1, 2, 14, 3. Then listings, child by child, 7 before 8; then 4 for the whole diagonal, then 5;
 //! records one by one, 10 before 11; names one by one, 15 before 16, and names end before the offset last; then 9;
-//! then 12 or 6. Of texts 17, then 18, then 19 come last; only export judges 3 after all else. Every operation below
-//! judges in this order, by `?` on one judgement after the other.
+//! then 12, 6 or 20. Of texts 17, then 18, then 19 come last; only export judges 3 after all else. Every operation
+//! below judges in this order, by `?` on one judgement after the other.
 
 use crate::table::COUNTS;
 
 /// Why a call is refused. Positions, records, steps and leaves count from 0.
 #[derive(Clone, Copy, Debug, PartialEq, Eq)]
 pub enum Refusal {
-    /// 1: leaf count outside 3..128 (polls and their tables 4..32).
+    /// 1: leaf count, or that of the result, outside 3..128 (polls and their tables 4..32).
     LeafCount,
     /// 2: lent input not exactly as long as the count needs.
     InputLength,
@@ -49,6 +49,8 @@ pub enum Refusal {
     NotBinary,
     /// 19: name of the text unknown, repeated or missing.
     Unmatched,
+    /// 20: edge or leaf named that the tree has not, or a table that is not its own.
+    NotOfTree,
 }
 
 /// A result, or the cause of refusal.
@@ -76,6 +78,7 @@ impl Refusal {
             Refusal::Grammar { .. } => 17,
             Refusal::NotBinary => 18,
             Refusal::Unmatched => 19,
+            Refusal::NotOfTree => 20,
         }
     }
 
@@ -83,7 +86,8 @@ impl Refusal {
     pub fn figure(self) -> u64 {
         let figure = match self {
             Refusal::LeafCount | Refusal::InputLength | Refusal::OutputShort => 0,
-            Refusal::NoTree | Refusal::Sheet | Refusal::Offset | Refusal::NotBinary | Refusal::Unmatched => 0,
+            Refusal::NoTree | Refusal::Sheet | Refusal::Offset => 0,
+            Refusal::NotBinary | Refusal::Unmatched | Refusal::NotOfTree => 0,
             Refusal::Diagonal { leaf } | Refusal::NameAgain { leaf } => leaf,
             Refusal::Halves { i, j } => 256 * i + j,
             Refusal::Child { position } | Refusal::ChildAgain { position } | Refusal::Question { position } => position,

@@ -84,7 +84,7 @@ impl Tree {
     }
 
     /// The tree with leaf n hung on the middle of an edge.
-    fn with_leaf_on(&self, edge: LeafSet) -> Tree {
+    pub fn with_leaf_on(&self, edge: LeafSet) -> Tree {
         let new = single(self.leaves);
         let mut edges: BTreeSet<LeafSet> =
             self.edges.iter().map(|&side| if side != edge && within(edge, side) { side | new } else { side }).collect();

@@ -10,7 +10,7 @@ use borrow.Author.Tests.{lt-ltb, le-ltb, ne-eqb, eqb-true}
 use lib.Dec.{eqb}
 use Rattle.base.specs.Numbers.{indicator}
 use Rattle.base.proofs.Bools.{bool?, never, is-false, or-neither, or-absorb, eqb-same}
-use Rattle.base.proofs.Counts.{indicator-none, indicator-add}
+use Rattle.base.proofs.Counts.{indicator-none, indicator-add, no-indicator}
 use Rattle.limits.specs.Limits.{most-leaves}
 use Rattle.trees.specs.Trees.{Tree, leaf, node, leaves, size, occurrences, IsTree, least, ordered}
 use Rattle.trees.specs.Listings.{number-in, standard}
@@ -78,10 +78,6 @@ with-leaf-size x e (node A B) r =
     )
 
 -- where no edge has the number, nothing changes
-no-indicator : (b : Bool) → indicator b 1 ≡ 0 → b ≡ false
-no-indicator true h = absurd (omega arith)
-no-indicator false h = refl
-
 pub with-leaf-none : (x e : ℕ) (T : Tree) (r : ℕ) → edges-at e T r ≡ 0 → with-leaf x e T r ≡ T
 unfolding with-leaf edges-at put-on
 with-leaf-none x e (leaf i) r h = rw (no-indicator (eqb e i) h)

@@ -15,13 +15,17 @@ use Rattle.limits.specs.Limits.{IsLeafCount, scale-of}
 use Rattle.refusals.specs.Refusals.{Answer, accepted, refused, answered}
 use Rattle.refusals.proofs.Answers.{accepted-same, accepted-not-refused, answered-accepted, unless-accepted}
 use Rattle.tree_records.specs.declared.Origin.{Origin}
-use Rattle.tree_records.specs.declared.Origin.the-variants.{Rebuilt, Listed, Imported, Guessed}
+use Rattle.tree_records.specs.declared.Origin.the-variants.{Rebuilt, Listed, Imported, Guessed, Grafted}
 use Rattle.tree_records.specs.Origins.{origin-number}
 use Rattle.tree_records.specs.Records.{TreeRecord, marked}
 use Rattle.trees.specs.Listings.{KeepsRules, standard}
 use Rattle.trees.specs.Tables.{table-of, times}
 use Rattle.listings.specs.Operations.{listing-refusal}
 use Rattle.listings.proofs.ListingRefusal.{accepted-listing}
+use Rattle.change_answers.specs.declared.Change.{Change}
+use Rattle.change_answers.specs.declared.Change.the-variants.{Graft, Prune}
+use Rattle.change_answers.specs.Operations.{count-after, change-answer, change-record}
+use Rattle.change_answers.proofs.Promises.{accepted-all, change-standard}
 use Rattle.rebuild_answers.specs.Operations.{rebuild-answer, guided-answer}
 use Rattle.rebuild_answers.proofs.Promises.{rebuilt-leaf-count, rebuilt-is-standard, rebuilt-has-the-table}
 use Rattle.rebuild_answers.proofs.Promises.{guided-same-listing}
@@ -39,8 +43,8 @@ use Rattle.guess_answers.proofs.Promises.{guess-is-reply, sheet-guess-is-reply}
 use Rattle.record_operations.specs.Operations.{rebuild-record, sheet-record, guided-record, lent-record}
 use Rattle.record_operations.specs.Operations.{import-record, restandardise-record}
 use Rattle.made_records.specs.Made.{Given, sheet-table, Made, rebuild, rebuild-sheet, rebuild-guided}
-use Rattle.made_records.specs.Made.{guess, guess-sheet, lend, import, restandardise, tree, HasTableGiven}
-use Rattle.made_records.specs.Made.{has-table, NoTreeHasGiven, no-tree}
+use Rattle.made_records.specs.Made.{guess, guess-sheet, lend, import, graft, prune, restandardise, tree}
+use Rattle.made_records.specs.Made.{HasTableGiven, has-table, NoTreeHasGiven, no-tree}
 use Rattle.made_records.proofs.Restandardising.{restandardise-same, restandardise-accepts}
 
 -- What is so of every record that our operations make, with this table given.
@@ -119,6 +123,22 @@ import-sound S t room e = marked-sound (leaves-of S) Imported (import-answer S t
       none-has = λ same. absurd (omega (arith, ap origin-number same));
     })
 
+-- A graft or a prune, whose listing is standard.
+change-sound :
+    (n : ℕ) (l t : List ℕ) (c : Change) (room space : ℕ) {R : TreeRecord}
+    → change-record n l t c room space ≡ accepted R → Sound R none
+unfolding change-record
+change-sound n l t c room space e =
+    marked-sound (count-after n c) Grafted (change-answer n l t c room space) e (λ l′ given.
+    let is = change-standard n l t c room space l′ given in
+    record {
+      count = accepted-all n l t c room space l′ given .new-count;
+      keeps = is .0;
+      is-standard = λ _. is .1;
+      rebuilt-has = λ same. absurd (omega (arith, ap origin-number same));
+      none-has = λ same. absurd (omega (arith, ap origin-number same));
+    })
+
 -- Restandardising, which leaves the leaf count, the origin and the table as they were.
 table-kept :
     {R R′ : TreeRecord} {g : Given} → table-of (R′ .leaves) (tree R′) ≡ table-of (R .leaves) (tree R)
@@ -158,6 +178,8 @@ made-sound (guess-sheet S room e) =
     guess-sound Counts (leaves-of S) _ (sheet-guess-answer S room) e (sheet-guess-is-reply S room)
 made-sound (lend n l e) = lend-sound n l e
 made-sound (import S t room e) = import-sound S t room e
+made-sound (graft n l t edge room space e) = change-sound n l t (Graft edge) room space e
+made-sound (prune n l t x room space e) = change-sound n l t (Prune x) room space e
 made-sound (restandardise room made e) = restandardise-sound room (made-sound made) e
 
 -- The theorem: a record of origin rebuilt that our operations made has the table that was given.

@@ -13,13 +13,16 @@ use Rattle.trees.specs.Trees.{Tree}
 use Rattle.trees.specs.Listings.{tree-of}
 use Rattle.trees.specs.Tables.{HasTable}
 use Rattle.merging.specs.Meaning.{HasNoTree}
+use Rattle.change_answers.specs.declared.Change.the-variants.{Graft, Prune}
+use Rattle.change_answers.specs.Operations.{change-record}
 use Rattle.packed_tables.specs.Packed.{table-with}
 use Rattle.sheet_rules.specs.Sheets.{leaves-of, cells-of}
 use Rattle.guess_answers.specs.Operations.{guess-record, sheet-guess-record}
 use Rattle.record_operations.specs.Operations.{rebuild-record, sheet-record, guided-record, lent-record}
 use Rattle.record_operations.specs.Operations.{import-record, restandardise-record}
 
--- the table that the rebuild at the start of a chain was given, with its kind; none where no rebuild stands there
+-- the table that the rebuild at the start of a chain was given, with its kind; none where no rebuild stands there, or
+-- where the tree was changed since
 abbrev pub Given : Type 0
 Given = Option (Kind × List ℕ)
 
@@ -51,6 +54,13 @@ pub data Made : TreeRecord → Given → Type 0 where
   lend : (n : ℕ) (l : List ℕ) {R : TreeRecord} → lent-record n l ≡ accepted R → Made R none
   -- an import
   import : (S t : List ℕ) (room : ℕ) {R : TreeRecord} → import-record S t room ≡ accepted R → Made R none
+  -- a graft and a prune of a lent listing, beside which its own table is kept: no table that was given before is told
+  graft :
+      (n : ℕ) (l t : List ℕ) (edge room space : ℕ) {R : TreeRecord}
+      → change-record n l t (Graft edge) room space ≡ accepted R → Made R none
+  prune :
+      (n : ℕ) (l t : List ℕ) (x room space : ℕ) {R : TreeRecord}
+      → change-record n l t (Prune x) room space ≡ accepted R → Made R none
   -- restandardising a record that was made so
   restandardise :
       {R R′ : TreeRecord} {g : Given} (room : ℕ) → Made R g

@@ -3,9 +3,8 @@
 use mathlib.Core.Path.{_≡_, refl, ap, sym, _∙_}
 use mathlib.Core.List.{List, [], _∷_, _++_}
 use mathlib.Core.Option.{none}
-use Prim.Native.Nat.{ℕ, _+_, _-_, _*_, _≤_}
-use native.Mathlib.Omega.{arith}
-use lib.ListN.{length, take, drop}
+use Prim.Native.Nat.{ℕ, _-_, _*_, _≤_}
+use lib.ListN.{length, drop}
 use Rattle.limits.specs.Limits.{IsLeafCount}
 use Rattle.refusals.specs.declared.Refusal.{Refusal}
 use Rattle.refusals.specs.declared.Outcome.the-variants.{Done, Refused}
@@ -14,6 +13,7 @@ use Rattle.refusals.proofs.Answers.{outcome-answered, done-none, written-done}
 use Rattle.trees.specs.Listings.{tree-of, standard}
 use Rattle.trees.proofs.Rules.{listing-tree}
 use Rattle.trees.proofs.Listings.{tree-listing}
+use Rattle.rerooted_rows.specs.inner.Arrays.{with-chain}
 use Rattle.sheet_rules.specs.Sheets.{leaves-of, offset-of, names-of}
 use Rattle.sheet_rules.specs.Operations.{sheet-refusal}
 use Rattle.sheet_rules.proofs.SheetRefusal.{accepted-sheet}
@@ -22,9 +22,7 @@ use Rattle.newick_rules.specs.Importing.{tree-drawn, imported}
 use Rattle.newick_rules.specs.Importing.{nodes-refusal, strains-refusal}
 use Rattle.newick_rules.specs.Operations.{Strains}
 use Rattle.newick_rules.proofs.Sheets.{sheet-strains}
-use Rattle.newick_text.specs.inner.Chains.{with-chain}
 use Rattle.newick_text.specs.inner.Texts.{Drawn}
-use Rattle.newick_text.proofs.Chains.{with-chain-length}
 use Rattle.newick_text.proofs.Answers.{refused-not-done}
 
 -- The whole import, where the sheet is right: with nothing refused, the standard listing of what the arrays hold.
@@ -50,17 +48,6 @@ pub import-refused :
 unfolding outcome written
 import-refused (accepted l) r out e = absurd (refused-not-done r e)
 import-refused (refused q) r out e = refl
-
--- the rows of the listing, once those of the chain are written
-pub rows-listed :
-    {known : List (List ℕ)} {n : ℕ} {t : List ℕ} {m chained : ℕ} {rows chain : List ℕ} (rows′ : List ℕ)
-    → Drawn known n t m chained rows chain
-    → take (2 * (m + (chained - 1))) rows′ ≡ with-chain n m chained chain rows
-    → take (2 * (n - 2)) rows′ ≡ with-chain n m chained chain rows
-rows-listed {n = n} {m = m} {chained} {rows} {chain} rows′ D e =
-    let long = with-chain-length n m chained chain rows (D .room) in
-    let all : 2 * (n - 2) ≡ 2 * (m + (chained - 1)) = omega (arith, D .keeps .numbers, long) in
-    rw all e
 
 -- a sheet that has passed, with room for a listing of n leaves
 pub sheet-ready :

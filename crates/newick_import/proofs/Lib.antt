@@ -1,2 +1,1 @@
-mod Hanging
 mod Answers

@@ -4,11 +4,12 @@ use limits::MOST_NUMBERS;
 use name_index::BUCKETS;
 use newick_text::read_text;
 use refusals::Outcome;
+use rerooted_rows::write_chain;
 use standard_listings::standard_rows;
 ghost use mathlib.Core.Path.{_≡_};
-ghost use Prim.Native.Nat.{_-_, _*_, _+_, _≤_};
-ghost use lib.ListN.{length, take};
-ghost use Rattle.limits.specs.Limits.{IsLeafCount, most-numbers};
+ghost use Prim.Native.Nat.{_-_, _*_, _≤_};
+ghost use lib.ListN.{length};
+ghost use Rattle.limits.specs.Limits.{IsLeafCount};
 ghost use Rattle.refusals.specs.Refusals.{outcome, written};
 ghost use Rattle.refusals.specs.Meanings.{Gives};
 ghost use Rattle.sheet_rules.specs.Sheets.{names-of};
@@ -16,32 +17,6 @@ ghost use Rattle.newick_rules.specs.Importing.{imported};
 ghost use Rattle.newick_rules.specs.Operations.{Strains, import-answer};
 ghost use Rattle.newick_rules.specs.Meanings.{ImportMeans};
 ghost use Rattle.newick_text.specs.inner.Names.{Indexed};
-ghost use Rattle.newick_text.specs.inner.Chains.{with-chain, ChainFits};
-
-// Writes the rows that the chain makes behind the others.
-fn hang(
-    n: usize,
-    made: usize,
-    chained: usize,
-    chain: &[u16; MOST_LEAVES],
-    rows: &mut [u16; MOST_NUMBERS],
-)
-    requires { ⌜ ChainFits n made chained (now chain) (now rows) ⌝ }
-    ensures { λ _. ⌜ (take (2 * (made + (chained - 1))) (now (rows .exit))
-        ≡ with-chain n made chained (now (chain .entry)) (now (rows .entry)))
-        × (length (now (rows .exit)) ≡ most-numbers) ⌝ }
-{
-    let mut k: usize = chained - 1;
-    let mut above = chain[k];
-    let mut r: usize = made;
-    while 0 < k {
-        k -= 1;
-        rows[2 * r] = above;
-        rows[2 * r + 1] = chain[k];
-        above = (n + r) as u16;
-        r += 1;
-    }
-}
 
 // Import with a sheet that has passed, and the index of its names: 17, 18, 19.
 fn import_indexed(
@@ -81,7 +56,7 @@ fn import_indexed(
     let Outcome::Done = outcome else {
         return outcome;
     };
-    hang(n, read.rows, read.chained, &chain, &mut rows);
+    write_chain(n, read.rows, read.chained, &chain, &mut rows);
     let end = 2 * (n - 2);
     standard_rows(n, &rows[..end], out);
     outcome

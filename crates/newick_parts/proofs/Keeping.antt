@@ -5,18 +5,20 @@ use mathlib.Core.Logic.{_≢_}
 use mathlib.Core.Bool.{Bool, true, false, cond, and-false}
 use mathlib.Core.List.{List, [], _∷_}
 use mathlib.Core.Option.{Option, none, some}
-use Prim.Native.Nat.{ℕ, suc, _+_, _-_, _*_, _≤_, _<_}
+use Prim.Native.Nat.{ℕ, suc, _+_, _-_, _≤_, _<_}
 use native.Mathlib.Omega.{arith}
-use native.Mathlib.Decide.{ℕ-discrete}
 use borrow.Author.Tests.{ne-eqb, ltb-true, le-leb, lt-leb}
 use lib.Dec.{ltb, leb, eqb}
-use lib.ListN.{length, getD, set, take, length-set, length-map}
+use lib.ListN.{length, getD, set, length-set, length-map}
 use lib.Seq.{getD-set-same, getD-set-other}
 use Rattle.base.proofs.Bools.{never}
 use Rattle.limits.specs.Limits.{most-leaves, most-numbers, IsLeafCount}
 use Rattle.trees.specs.Trees.{Tree}
 use Rattle.trees.specs.Listings.{subtree-at}
-use Rattle.trees.proofs.AddedRows.{row-stored}
+use Rattle.rerooted_rows.specs.declared.Joined.{Joined}
+use Rattle.rerooted_rows.specs.inner.Joining.{Accounted}
+use Rattle.rerooted_rows.specs.inner.Arrays.{JoinFits, Joins}
+use Rattle.rerooted_rows.proofs.Arrays.{joins-rows, joins-chain, joins-rows-long, joins-chain-long, join-fits}
 use Rattle.newick_rules.specs.Drawings.{Drawing, bracket, Parts, one, more}
 use Rattle.newick_rules.specs.Reader.{opening, closing, comma, Open, with-part}
 use Rattle.newick_rules.specs.Importing.{ways}
@@ -24,60 +26,15 @@ use Rattle.newick_rules.proofs.Sides.{ways-positive}
 use Rattle.newick_reading.specs.inner.Moves.{opens-of, last-of}
 use Rattle.newick_reading.specs.inner.Fitting.{open-ways, all-ways, most-before, fits, may-close}
 use Rattle.newick_reading.specs.inner.Naming.{names-so-far, NamesSaid}
-use Rattle.newick_reading.specs.inner.Joining.{joined-number, joined-count, joined-rows, joined-chain}
-use Rattle.newick_reading.specs.inner.Joining.{numbers-of-opens, number-of-last, OpensStand, Accounted, Keeps}
+use Rattle.newick_reading.specs.inner.Joining.{numbers-of-opens, number-of-last, OpensStand, Keeps}
 use Rattle.newick_reading.proofs.Fitting.{fits-opening, fits-comma, fits-closing, most-by-depth, close-by-depth}
 use Rattle.newick_reading.proofs.Fitting.{ways-with-part}
 use Rattle.newick_reading.proofs.Naming.{names-opening, names-part, names-close}
-use Rattle.newick_reading.proofs.Joining.{keeps-open, keeps-close, keeps-first, keeps-more, row-fits}
-use Rattle.newick_reading.proofs.Finishing.{chain-short}
+use Rattle.newick_reading.proofs.Joining.{keeps-open, keeps-close, keeps-first, keeps-more}
 use Rattle.newick_parts.specs.declared.Kept.{Kept}
-use Rattle.newick_parts.specs.declared.Joined.{Joined}
-use Rattle.newick_parts.specs.inner.Keeping.{Piled, Built, KeptAt}
-use Rattle.newick_parts.specs.inner.Parts.{stored-rows, stored-chain, stored-length, JoinFits, Joins, PartFits}
-use Rattle.newick_parts.specs.inner.Parts.{joined-kept, PartMade, goes-on-at, closes-at, unfit-kept}
+use Rattle.newick_parts.specs.inner.Keeping.{Piled, rows-made, chain-kept, Built, KeptAt}
+use Rattle.newick_parts.specs.inner.Parts.{PartFits, joined-kept, PartMade, goes-on-at, closes-at, unfit-kept}
 use Rattle.newick_parts.specs.inner.Parts.{closed-kept, PartEnds, Comes, PartAdded, BracketClosed, Came}
-
--- The ways out of `join`.
-module _ (n a b m chained : ℕ) (rows chain : List ℕ) where
-  pub join-first :
-      a ≡ 0
-      → Joins n a b m chained rows chain rows (set chain chained b)
-      (record { number = 0; rows = m; chained = chained + 1 })
-  unfolding joined-number joined-count stored-length stored-rows stored-chain
-  join-first e = rw e (record {
-    number-is = refl;
-    count-is = refl;
-    length-is = refl;
-    rows-are = refl;
-    chain-are = refl;
-  })
-
-  pub join-second :
-      a ≢ 0 → b ≡ 0
-      → Joins n a b m chained rows chain rows (set chain chained a)
-      (record { number = 0; rows = m; chained = chained + 1 })
-  unfolding joined-number joined-count stored-length stored-rows stored-chain
-  join-second d e = record {
-    number-is = rw (ne-eqb a 0 d, e);
-    count-is = rw (ne-eqb a 0 d, e);
-    length-is = rw (ne-eqb a 0 d, e);
-    rows-are = rw (ne-eqb a 0 d, e);
-    chain-are = rw (ne-eqb a 0 d, e);
-  }
-
-  pub join-row :
-      a ≢ 0 → b ≢ 0
-      → Joins n a b m chained rows chain (set (set rows (2 * m) a) (2 * m + 1) b) chain
-      (record { number = n + m; rows = m + 1; chained = chained })
-  unfolding joined-number joined-count stored-length stored-rows stored-chain
-  join-row d e = record {
-    number-is = rw (ne-eqb a 0 d, ne-eqb b 0 e);
-    count-is = rw (ne-eqb a 0 d, ne-eqb b 0 e);
-    length-is = rw (ne-eqb a 0 d, ne-eqb b 0 e);
-    rows-are = rw (ne-eqb a 0 d, ne-eqb b 0 e);
-    chain-are = rw (ne-eqb a 0 d, ne-eqb b 0 e);
-  }
 
 -- Arrays that hold a list.
 
@@ -93,54 +50,6 @@ piled-past cells (x ∷ l) i v h p = (
 piled-more :
     (cells l : List ℕ) (v : ℕ) → length l < length cells → Piled cells l → Piled (set cells (length l) v) (v ∷ l)
 piled-more cells l v h p = (getD-set-same cells (length l) v 0 h, piled-past cells l (length l) v (omega arith) p)
-
--- joined subtrees, in the array of rows and in that of the chain; both stay as long as they are
-rows-joined :
-    (a b m : ℕ) (rows l : List ℕ) → take (2 * m) rows ≡ l → (a ≢ 0 → b ≢ 0 → 2 * m + 1 < length rows)
-    → take (2 * joined-count a b m) (stored-rows a b m rows) ≡ joined-rows a b l
-unfolding joined-count stored-rows joined-rows
-rows-joined a b m rows l e h = elim (ℕ-discrete a 0) [
-  | yes z ↦ rw z e
-  | no da ↦ elim (ℕ-discrete b 0) [
-    | yes z ↦ rw (ne-eqb a 0 da, z) e
-    | no db ↦ rw (ne-eqb a 0 da, ne-eqb b 0 db) (row-stored rows m a b (h da db) ∙ rw e)
-  ]
-]
-
-chain-joined :
-    (a b chained : ℕ) (chain l : List ℕ) → Piled chain l → chained ≡ length l → chained < length chain
-    → Piled (stored-chain a b chained chain) (joined-chain a b l)
-    × (stored-length a b chained ≡ length (joined-chain a b l))
-unfolding stored-chain joined-chain stored-length
-chain-joined a b chained chain l p e h = elim (ℕ-discrete a 0) [
-  | yes z ↦ rw (z, e) (piled-more chain l b (omega arith) p, omega arith)
-  | no da ↦ elim (ℕ-discrete b 0) [
-    | yes z ↦ rw (ne-eqb a 0 da, z, e) (piled-more chain l a (omega arith) p, omega arith)
-    | no db ↦ rw (ne-eqb a 0 da, ne-eqb b 0 db) (p, e)
-  ]
-]
-
-rows-length : (a b m : ℕ) (rows : List ℕ) → length (stored-rows a b m rows) ≡ length rows
-unfolding stored-rows
-rows-length a b m rows = stored (eqb a 0) (eqb b 0)
-  where
-    stored :
-        (x y : Bool)
-        → length (cond x rows (cond y rows (set (set rows (2 * m) a) (2 * m + 1) b))) ≡ length rows
-    stored true y = refl
-    stored false true = refl
-    stored false false = length-set (set rows (2 * m) a) (2 * m + 1) b ∙ length-set rows (2 * m) a
-
-chain-length : (a b chained : ℕ) (chain : List ℕ) → length (stored-chain a b chained chain) ≡ length chain
-unfolding stored-chain
-chain-length a b chained chain = stored (eqb a 0) (eqb b 0)
-  where
-    stored :
-        (x y : Bool)
-        → length (cond x (set chain chained b) (cond y (set chain chained a) chain)) ≡ length chain
-    stored true y = length-set chain chained b
-    stored false true = length-set chain chained a
-    stored false false = refl
 
 -- Each open bracket has a number, and the array holds that of the innermost last.
 opens-length :
@@ -168,9 +77,12 @@ module _ {known : List (List ℕ)} {n : ℕ} {o : Open} {s : List Open} {d : Dra
   split : (a : ℕ) × (l : List ℕ) × (B .of-opens ≡ a ∷ l) × (length l ≡ length s)
   split =
       head-and-tail (B .of-opens) (length s)
-      (opens-length known (subtree-at n (B .of-rows)) (B .of-chain) (o ∷ s) (B .of-opens) (B .keeps .opens))
+      (opens-length known (subtree-at n (rows-made K rows)) (chain-kept K chain) (o ∷ s) (B .of-opens)
+      (B .keeps .opens))
 
-  keeps-split : Keeps known n (o ∷ s) (some d) (split .0 ∷ split .1) (K .last) (K .rows) (B .of-rows) (B .of-chain) seen
+  keeps-split :
+      Keeps known n (o ∷ s) (some d) (split .0 ∷ split .1) (K .last) (K .rows) (rows-made K rows) (chain-kept K chain)
+      seen
   keeps-split = rw (split .2) at (B .keeps)
 
   held-split : Piled numbers (split .0 ∷ split .1)
@@ -190,14 +102,10 @@ first-built {known} {n} {s} {d} {K} {numbers} {rows} {chain} {seen} z low B =
     let put = piled-more numbers (r .1) (K .last) (omega (arith, r .3)) (held-split z B .1) in
     record {
       of-opens = K .last ∷ r .1;
-      of-rows = B .of-rows;
-      of-chain = B .of-chain;
       keeps =
-          keeps-first known n z s (r .1) (K .last) (K .rows) (B .of-rows) (B .of-chain) seen d (r .0) (keeps-split z B);
+          keeps-first known n z s (r .1) (K .last) (K .rows) (rows-made K rows) (chain-kept K chain) seen d (r .0)
+          (keeps-split z B);
       opens-held = rw (← r .3) put;
-      rows-held = B .rows-held;
-      chain-held = B .chain-held;
-      chain-long = B .chain-long;
     }
 
 -- one more part
@@ -206,29 +114,17 @@ module _ {known : List (List ℕ)} {n : ℕ} {p : Parts} {s : List Open} {d : Dr
     (B : Built known n (some p ∷ s) (some d) K numbers rows chain seen) where
   -- the numbers that are joined, and the others
   joint-accounted :
-      Accounted n (K .rows) (B .of-rows) (B .of-chain)
+      Accounted n (K .rows) (rows-made K rows) (chain-kept K chain)
       (K .last ∷ getD numbers (length s) 0 ∷ numbers-of-opens s (split z B .1)) seen
   unfolding numbers-of-opens number-of-last
   joint-accounted = rw (number-here z B) (keeps-split z B .accounted)
 
-  join-fits :
-      n ≤ most-leaves → length rows ≡ most-numbers → length chain ≡ most-leaves
+  part-join-fits :
+      IsLeafCount n → length rows ≡ most-numbers → length chain ≡ most-leaves
       → JoinFits n (getD numbers (length s) 0) (K .last) (K .rows) (K .chained) rows chain
-  join-fits few lr lc =
-      let short = chain-short z joint-accounted in
-      record {
-        few = few;
-        m-low = omega (arith, short);
-        row-room = λ da db.
-            omega (
-              arith,
-              row-fits z (numbers-of-opens s (split z B .1)) (getD numbers (length s) 0) (K .last) da db
-                  joint-accounted,
-            );
-        chain-room = omega (arith, B .chain-long, short);
-        rows-long = lr;
-        chain-long = lc;
-      }
+  part-join-fits count lr lc =
+      join-fits n (K .rows) (K .chained) rows chain seen count lr lc (getD numbers (length s) 0) (K .last)
+      (numbers-of-opens s (split z B .1)) joint-accounted
 
   more-built :
       (J : Joined) (rows′ chain′ : List ℕ) → length s < length numbers
@@ -238,24 +134,13 @@ module _ {known : List (List ℕ)} {n : ℕ} {p : Parts} {s : List Open} {d : Dr
       seen
   more-built joined rows′ chain′ low F j =
       let r = split z B in
-      let a = getD numbers (length s) 0 in
-      let k = keeps-more known n z s (r .1) (K .last) (K .rows) (B .of-rows) (B .of-chain) seen p d (r .0)
+      let k = keeps-more known n z s (r .1) (K .last) (K .rows) (rows-made K rows) (chain-kept K chain) seen p d (r .0)
       (keeps-split z B) in
       let put = piled-more numbers (r .1) (joined .number) (omega (arith, r .3)) (held-split z B .1) in
-      let c = chain-joined a (K .last) (K .chained) chain (B .of-chain) (B .chain-held) (B .chain-long)
-      (omega (arith, F .chain-room, F .chain-long)) in
       record {
         of-opens = joined .number ∷ r .1;
-        of-rows = joined-rows a (K .last) (B .of-rows);
-        of-chain = joined-chain a (K .last) (B .of-chain);
-        keeps = rw (j .number-is, j .count-is, number-here z B) k;
         opens-held = rw (← r .3) put;
-        rows-held =
-            rw (j .count-is, j .rows-are)
-            (rows-joined a (K .last) (K .rows) rows (B .of-rows) (B .rows-held)
-            (λ da db. omega (arith, F .row-room da db, F .rows-long)));
-        chain-held = rw (j .chain-are) (c .0);
-        chain-long = j .length-is ∙ c .1;
+        keeps = rw (joins-rows F j, joins-chain F j, j .number-is, j .count-is, number-here z B) k;
       }
 
 -- What is kept when a part ends, where so many brackets are open.
@@ -286,7 +171,7 @@ module _ {known : List (List ℕ)} {n : ℕ} {o : Open} {s : List Open} {d : Dra
           (o : Open) → Built known n (o ∷ s) (some d) K numbers rows chain seen → open-ways o ≢ 0
           → JoinFits n (getD numbers (length s) 0) (K .last) (K .rows) (K .chained) rows chain
       go none B h = absurd (h (unfold open-ways in refl))
-      go (some p) B h = join-fits z B (count .1) (A .rows-long) (A .chain-long)
+      go (some p) B h = part-join-fits z B count (A .rows-long) (A .chain-long)
 
   -- what `part` makes
   part-built :
@@ -320,7 +205,7 @@ module _ {known : List (List ℕ)} {n : ℕ} {o : Open} {s : List Open} {d : Dra
       go (some p) B c e M′ =
           let m = M′ .more (λ q. omega (arith, ways-positive p, e)) in
           let low : length s < length numbers = omega (arith, A .numbers-long) in
-          let F = join-fits z B (count .1) (A .rows-long) (A .chain-long) in
+          let F = part-join-fits z B count (A .rows-long) (A .chain-long) in
           let j = m .1 in
           rw (m .3, m .2) (
             more-built z B (m .0) rows′ chain′ low F j,
@@ -328,8 +213,8 @@ module _ {known : List (List ℕ)} {n : ℕ} {o : Open} {s : List Open} {d : Dra
             refl,
             refl,
             length-set numbers (length s) (m .0 .number) ∙ A .numbers-long,
-            rw (j .rows-are) (rows-length (getD numbers (length s) 0) (K .last) (K .rows) rows ∙ A .rows-long),
-            rw (j .chain-are) (chain-length (getD numbers (length s) 0) (K .last) (K .chained) chain ∙ A .chain-long),
+            joins-rows-long F j,
+            joins-chain-long F j,
           )
 
   -- The names are those before.
@@ -492,24 +377,20 @@ module _ {known : List (List ℕ)} {n : ℕ} {o : Open} {s : List Open} {d : Dra
             → Built known n s (some (bracket q)) (closed-kept K′ (getD numbers′ (depth - 1) 0)) numbers′ rows′ chain′
             seen
         closed-built q K′ numbers′ rows′ chain′ B =
-            let f = subtree-at n (B .of-rows) in
+            let f = subtree-at n (rows-made K′ rows′) in
             let r = head-and-tail (B .of-opens) (length s)
-            (opens-length known f (B .of-chain) (some q ∷ s) (B .of-opens) (B .keeps .opens)) in
+            (opens-length known f (chain-kept K′ chain′) (some q ∷ s) (B .of-opens) (B .keeps .opens)) in
             let k = rw (r .2) at (B .keeps) in
             let p = rw (r .2) at (B .opens-held) in
             let here : getD numbers′ (depth - 1) 0 ≡ r .0 =
             rw place-is (first-held numbers′ (B .of-opens) (r .1) (r .0) (length s) (r .2) (r .3) (B .opens-held)) in
             record {
               of-opens = r .1;
-              of-rows = B .of-rows;
-              of-chain = B .of-chain;
               keeps =
                   rw here
-                  (keeps-close known n z s (r .1) (K′ .last) (K′ .rows) (B .of-rows) (B .of-chain) seen q (r .0) k);
+                  (keeps-close known n z s (r .1) (K′ .last) (K′ .rows) (rows-made K′ rows′) (chain-kept K′ chain′)
+                  seen q (r .0) k);
               opens-held = p .1;
-              rows-held = B .rows-held;
-              chain-held = B .chain-held;
-              chain-long = B .chain-long;
             }
 
 -- A bracket opens.
@@ -536,17 +417,14 @@ opened {known} {n} {s} {K} {parts} {numbers} {rows} {chain} {seen} z depth low d
     wider :
         Built known n s none K numbers rows chain seen → Built known n (none ∷ s) none K numbers rows chain seen
     wider B =
-        let f = subtree-at n (B .of-rows) in
+        let f = subtree-at n (rows-made K rows) in
         let a = getD numbers (length (B .of-opens)) 0 in
         record {
           of-opens = a ∷ B .of-opens;
-          of-rows = B .of-rows;
-          of-chain = B .of-chain;
-          keeps = keeps-open known n z s (B .of-opens) (K .last) (K .rows) (B .of-rows) (B .of-chain) seen a (B .keeps);
+          keeps =
+              keeps-open known n z s (B .of-opens) (K .last) (K .rows) (rows-made K rows) (chain-kept K chain) seen a
+              (B .keeps);
           opens-held = (refl, B .opens-held);
-          rows-held = B .rows-held;
-          chain-held = B .chain-held;
-          chain-long = B .chain-long;
         }
 
 -- The ways out of `part`, and the small tests.

@@ -1,8 +1,9 @@
 // What a bracket or a comma of a Newick text makes of what import keeps while it reads. For the crate of import.
 use limits::MOST_LEAVES;
 use limits::MOST_NUMBERS;
+use rerooted_rows::join;
 ghost use mathlib.Core.Path.{_≡_};
-ghost use Rattle.newick_parts.specs.inner.Parts.{JoinFits, Joins, PartFits, PartMade, PartEnds, PartAdded};
+ghost use Rattle.newick_parts.specs.inner.Parts.{PartFits, PartMade, PartEnds, PartAdded};
 ghost use Rattle.newick_parts.specs.inner.Parts.{BracketClosed, Comes, Came, goes-on-at, closes-at, unfit-kept};
 
 // What is kept beside the arrays: the number of the last drawing; whether all nodes are binary so far, apart from a
@@ -14,52 +15,6 @@ pub struct Kept {
     pub many: usize,
     pub rows: usize,
     pub chained: usize,
-}
-
-// Two subtrees joined: their number, and how many rows and numbers in the chain there are then.
-pub struct Joined {
-    pub number: u16,
-    pub rows: usize,
-    pub chained: usize,
-}
-
-// Joins the subtrees a and b: by a row; but one beside leaf 0's goes to the chain, and the number stays 0.
-fn join(
-    n: usize,
-    a: u16,
-    b: u16,
-    made: usize,
-    chained: usize,
-    rows: &mut [u16; MOST_NUMBERS],
-    chain: &mut [u16; MOST_LEAVES],
-) -> Joined
-    requires { ⌜ JoinFits n a b made chained (now rows) (now chain) ⌝ }
-    ensures { λ r. ⌜ Joins n a b made chained (now (rows .entry)) (now (chain .entry)) (now (rows .exit))
-        (now (chain .exit)) r ⌝ }
-{
-    if a == 0 {
-        chain[chained] = b;
-        return Joined {
-            number: 0,
-            rows: made,
-            chained: chained + 1,
-        };
-    }
-    if b == 0 {
-        chain[chained] = a;
-        return Joined {
-            number: 0,
-            rows: made,
-            chained: chained + 1,
-        };
-    }
-    rows[2 * made] = a;
-    rows[2 * made + 1] = b;
-    Joined {
-        number: (n + made) as u16,
-        rows: made + 1,
-        chained,
-    }
 }
 
 // The last drawing becomes one more part of the bracket at a place, which has c parts so far.

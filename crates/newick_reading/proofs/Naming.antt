@@ -25,7 +25,7 @@ use Rattle.newick_rules.specs.Operations.{Strains}
 use Rattle.newick_rules.proofs.Strains.{found-at, named-here}
 use Rattle.newick_reading.specs.inner.Naming.{open-names, opens-names, last-names, names-so-far, hits}
 use Rattle.newick_reading.specs.inner.Naming.{RightSoFar, Wrong}
-use Rattle.newick_reading.proofs.Joining.{counted-true}
+use Rattle.rerooted_rows.proofs.Joining.{counted-true}
 
 -- The names so far, event by event.
 pub names-name :

@@ -18,12 +18,11 @@ use Rattle.trees.specs.Trees.{Tree, node, leaves, IsTree, ordered}
 use Rattle.trees.specs.Rerooting.{IsHeld, rerooted}
 use Rattle.trees.specs.Listings.{tree-of, standard}
 use Rattle.trees.specs.Edges.{one-edge, is-edge}
-use Rattle.trees.proofs.Trees.{tree-on, ordered-drawn}
 use Rattle.trees.proofs.Subtrees.{In, in-whole, Part, Same, same-trans, one-edge-is, subtree-edge, every-edge}
 use Rattle.trees.proofs.Subtrees.{ordered-to, ordered-of}
 use Rattle.trees.proofs.Rerooting.{held-on, held-same, rerooted-tree, rerooted-side, rerooted-part}
 use Rattle.trees.proofs.Rules.{listing-tree}
-use Rattle.trees.proofs.Listings.{standard-read, tree-listing, standard-once}
+use Rattle.trees.proofs.Listings.{tree-listing, standard-stands, standard-once}
 use Rattle.sheet_rules.specs.Sheets.{between}
 use Rattle.newick_rules.specs.Drawings.{Drawing, name, bracket, Parts, one, more, names-in}
 use Rattle.newick_rules.specs.Reader.{Reading, draws, breaks, read}
@@ -95,11 +94,6 @@ module _ (n : ℕ) (known : List (List ℕ)) (p : Parts) (d : Drawing) where
           every-edge (λ e. any-in (one-edge n e) (sides-of-parts known (more p d))) (standard-tree (node A B))
           (λ Y i. let q = edge-part n (node A B) many h Y i in some-side Y (q .0) (q .1) (q .2));
     }
-
--- the standard listing of a tree stands for the tree in standard order
-standard-stands : (n : ℕ) → IsLeafCount n → (T : Tree) → IsTree n T → tree-of n (standard n T) ≡ ordered T
-unfolding standard
-standard-stands n c T h = standard-read n (ordered T) (c .0) (ordered-drawn n T (tree-on n T h))
 
 -- a text that import takes
 taken :

@@ -3,16 +3,16 @@
 use mathlib.Core.Path.{_≡_, refl, ap, sym, _∙_}
 use mathlib.Core.Logic.{inl, inr}
 use mathlib.Core.Bool.{Bool, true, _&&_}
-use mathlib.Core.List.{List, [], _∷_, _++_}
+use mathlib.Core.List.{List, [], _∷_}
 use mathlib.Core.Option.{none, some}
-use Prim.Native.Nat.{ℕ, _+_, _-_, _≤_, _<_}
+use Prim.Native.Nat.{ℕ, _≤_, _<_}
 use native.Mathlib.Omega.{arith}
 use borrow.Author.Tests.{eqb-true}
 use lib.Dec.{eqb}
-use lib.ListN.{length, length-append}
+use lib.ListN.{length}
 use Rattle.base.proofs.Bools.{bool?, never, and-both}
 use Rattle.base.proofs.Counts.{count-full}
-use Rattle.limits.specs.Limits.{IsLeafCount}
+use Rattle.limits.specs.Limits.{most-leaves, most-numbers, IsLeafCount}
 use Rattle.refusals.specs.declared.Refusal.{Refusal}
 use Rattle.refusals.specs.declared.Refusal.the-variants.{Grammar, NotBinary, Unmatched}
 use Rattle.refusals.specs.declared.Outcome.the-variants.{Done, Refused}
@@ -21,24 +21,23 @@ use Rattle.refusals.proofs.Answers.{refuse-none, judged-none, outcome-answered,
 use Rattle.trees.specs.Trees.{Tree}
 use Rattle.trees.specs.Listings.{standard, subtree-at}
 use Rattle.trees.specs.Rerooting.{rerooted}
+use Rattle.rerooted_rows.proofs.Arrays.{chain-fits, chain-listing}
 use Rattle.sheet_rules.specs.Sheets.{names-of}
 use Rattle.newick_rules.specs.Drawings.{Drawing, bracket, Parts, one, more, names-in}
 use Rattle.newick_rules.specs.Drawings.{name as named-drawing}
 use Rattle.newick_rules.specs.Reader.{draws, breaks, read}
-use Rattle.newick_rules.specs.Importing.{ways, binary-top, each-once, deepest, subtree, tree-drawn, imported}
-use Rattle.newick_rules.specs.Importing.{nodes-refusal, strains-refusal}
+use Rattle.newick_rules.specs.Importing.{ways, binary-top, each-once, deepest, subtree, subtree-of-parts, tree-drawn}
+use Rattle.newick_rules.specs.Importing.{imported, nodes-refusal, strains-refusal}
 use Rattle.newick_rules.specs.Operations.{Strains}
 use Rattle.newick_reading.specs.inner.Naming.{names-so-far, opens-names, last-names}
-use Rattle.newick_reading.specs.inner.Joining.{chain-rows, OpensStand, Keeps}
+use Rattle.newick_reading.specs.inner.Joining.{OpensStand, Keeps}
 use Rattle.newick_reading.proofs.Fitting.{fits-end}
 use Rattle.newick_reading.proofs.Naming.{wrong-judged, right-judged}
-use Rattle.newick_reading.proofs.Finishing.{chain-short, chain-split, listing-drawn}
+use Rattle.newick_reading.proofs.Finishing.{whole-accounted, whole-stands}
 use Rattle.newick_parts.specs.declared.Kept.{Kept}
-use Rattle.newick_parts.specs.inner.Keeping.{Piled, Built, KeptAt}
+use Rattle.newick_parts.specs.inner.Keeping.{rows-made, chain-kept, Built, KeptAt}
 use Rattle.newick_text.specs.inner.Names.{flags}
-use Rattle.newick_text.specs.inner.Chains.{with-chain}
 use Rattle.newick_text.specs.inner.Texts.{kept-refusal, Drawn, ReadSays}
-use Rattle.newick_text.proofs.Chains.{piled-backwards, chain-rows-length}
 
 pub refused-not-done : (r : Refusal) → Refused r ≡ Done → ⊥
 refused-not-done r e = let z : _≡_ {A = ℕ} 0 1 = cc in omega arith
@@ -122,67 +121,39 @@ module _ (S t : List ℕ) {n : ℕ} {K : Kept} {parts numbers : List ℕ} (seen 
 
     -- what is kept of the whole text
     keeps-whole :
-        Keeps (names-of S) n [] (some (bracket (more (shape .0) (shape .1)))) [] (K .last) (K .rows) (built .of-rows)
-        (built .of-chain) (flags seen)
+        Keeps (names-of S) n [] (some (bracket (more (shape .0) (shape .1)))) [] (K .last) (K .rows) (rows-made K rows)
+        (chain-kept K chain) (flags seen)
     keeps-whole =
-        let none-left = none-open known (subtree-at n (built .of-rows)) (built .of-chain) (built .of-opens)
+        let none-left = none-open known (subtree-at n (rows-made K rows)) (chain-kept K chain) (built .of-opens)
         (built .keeps .opens) in
         keeps-same (shape .2) none-left (built .keeps)
 
     big : 3 ≤ n
     big = count .0
 
-    last-of-chain : (c : ℕ) × (older : List ℕ) × (built .of-chain ≡ c ∷ older)
-    last-of-chain =
-        chain-split n big (flags seen) all-seen known (shape .0) (shape .1) (K .last) (K .rows) (built .of-rows)
-        (built .of-chain) keeps-whole
-
-    -- the listing as the arrays have it
-    with-chain-is :
-        with-chain n (K .rows) (K .chained) chain rows
-        ≡ built .of-rows ++ chain-rows (n + K .rows) (last-of-chain .0) (last-of-chain .1)
-    unfolding with-chain
-    with-chain-is =
-        let l = last-of-chain in
-        let older = l .1 in
-        let held : Piled chain (l .0 ∷ older) = rw (l .2) at (built .chain-held) in
-        let here : K .chained - 1 ≡ length older = omega (arith, built .chain-long, ap length (l .2)) in
-        rw (here, built .rows-held, held .0, piled-backwards chain older (held .1))
-
     pub drawn : Drawn (names-of S) n t (K .rows) (K .chained) rows chain
+    unfolding subtree
     drawn =
-        let l = last-of-chain in
-        let q = listing-drawn n big (flags seen) all-seen known (shape .0) (shape .1) (K .last) (K .rows)
-        (built .of-rows) (built .of-chain) keeps-whole (l .0) (l .1) (l .2) in
-        let long = q .0 .numbers in
-        let own = chain-rows-length (n + K .rows) (l .0) (l .1) in
-        let joined = length-append (built .of-rows) (chain-rows (n + K .rows) (l .0) (l .1)) in
-        let z : 0 < n = omega (arith, big) in
-        let short = chain-short z (built .keeps .accounted) in
+        let W = whole-accounted n big (flags seen) all-seen known (shape .0) (shape .1) (K .last) (K .rows)
+        (rows-made K rows) (chain-kept K chain) keeps-whole in
+        let st = whole-stands n big (flags seen) all-seen known (shape .0) (shape .1) (K .last) (K .rows)
+        (rows-made K rows) (chain-kept K chain) keeps-whole in
+        let P = subtree-of-parts known (shape .0) in
+        let Q = subtree known (shape .1) in
+        let q = chain-listing n (K .rows) (K .chained) rows chain (flags seen) count lr lc all-seen W P Q st in
         record {
           drawing = d;
           read-is = reads;
-          room = record {
-            few = count .1;
-            some = omega (arith, built .chain-long, ap length (l .2));
-            chain-low = omega (arith, built .chain-long, short, count .1);
-            room =
-                omega (
-                  arith,
-                  built .chain-long,
-                  ap length (l .2),
-                  long,
-                  own,
-                  joined,
-                  keeps-whole .accounted .long,
-                  count .1,
-                );
-            chain-long = A .chain-long;
-            rows-long = A .rows-long;
-          };
-          keeps = rw with-chain-is (q .0);
-          tree = rw with-chain-is (q .1 ∙ ap (λ e. rerooted (subtree known e)) (sym (shape .2)));
+          room = chain-fits n (K .rows) (K .chained) rows chain (flags seen) count lr lc all-seen W P Q st;
+          keeps = q .0;
+          tree = q .1 ∙ ap (λ e. rerooted (subtree known e)) (sym (shape .2));
         }
+      where
+        lr : length rows ≡ most-numbers
+        lr = A .rows-long
+
+        lc : length chain ≡ most-leaves
+        lc = A .chain-long
 
   -- 18, 19, or the rows and the chain
   pub kept-says : ReadSays S t n rows chain

@@ -1,5 +1,4 @@
 mod TakenNames
-pub mod Chains
 mod Texts
 mod Running
 pub mod Answers

@@ -23,7 +23,7 @@ use Rattle.newick_reading.proofs.Fitting.{fits-name}
 use Rattle.newick_reading.proofs.Naming.{names-name, still-wrong, unknown-wrong, again-wrong, right-more}
 use Rattle.newick_reading.proofs.Joining.{keeps-name}
 use Rattle.newick_parts.specs.declared.Kept.{Kept}
-use Rattle.newick_parts.specs.inner.Keeping.{Built, KeptAt}
+use Rattle.newick_parts.specs.inner.Keeping.{rows-made, chain-kept, Built, KeptAt}
 use Rattle.newick_text.specs.inner.Names.{flags, misnamed-kept, named-kept, Indexed, NameTaken, NameEnded}
 
 -- the index has the names of the sheet
@@ -139,15 +139,11 @@ module _ {known : List (List ℕ)} {n : ℕ} {s : List Open} {K : Kept} {parts n
     unfolding named-kept
     new-built B = record {
       of-opens = B .of-opens;
-      of-rows = B .of-rows;
-      of-chain = B .of-chain;
-      keeps =
-          keeps-name known n z s (B .of-opens) (K .last) (K .rows) (B .of-rows) (B .of-chain) (flags seen) x
-          (flags (set seen (leaf-named known x) true)) low new sees (B .keeps);
       opens-held = B .opens-held;
-      rows-held = B .rows-held;
-      chain-held = B .chain-held;
-      chain-long = B .chain-long;
+      keeps =
+          keeps-name known n z s (B .of-opens) (K .last) (K .rows) (rows-made K rows) (chain-kept K chain) (flags seen)
+          x
+          (flags (set seen (leaf-named known x) true)) low new sees (B .keeps);
     }
 
     new-kept :

@@ -38,6 +38,7 @@ use Rattle.newick_reading.specs.inner.Naming.{names-so-far, opens-names, last-n
 use Rattle.newick_reading.proofs.Fitting.{fits-start}
 use Rattle.newick_reading.proofs.Naming.{right-start}
 use Rattle.newick_reading.proofs.Joining.{keeps-start}
+use Rattle.rerooted_rows.specs.inner.Arrays.{backwards}
 use Rattle.newick_parts.specs.declared.Kept.{Kept}
 use Rattle.newick_parts.specs.inner.Keeping.{KeptAt}
 use Rattle.newick_parts.specs.inner.Parts.{Comes, Came}
@@ -184,13 +185,8 @@ module _ {S : List ℕ} {n : ℕ} {heads before starts parts numbers : List ℕ}
         };
         built = λ _ _. record {
           of-opens = [];
-          of-rows = [];
-          of-chain = [];
-          keeps = keeps-start known n z 0 (flags seen) none-flagged;
           opens-held = tt;
-          rows-held = refl;
-          chain-held = tt;
-          chain-long = refl;
+          keeps = unfold backwards in keeps-start known n z 0 (flags seen) none-flagged;
         };
       }
 

@@ -16,6 +16,8 @@ ghost use Rattle.splits.specs.Operations.{splits-answer};
 ghost use Rattle.pairings.specs.Operations.{lent-pairing-answer};
 ghost use Rattle.tree_tables.specs.Operations.{table-answer};
 ghost use Rattle.gaps.specs.Operations.{gap-answer};
+ghost use Rattle.change_answers.specs.declared.Change.the-variants.{Graft, Prune};
+ghost use Rattle.change_answers.specs.Operations.{change-answer, change-record, change-table};
 ghost use Rattle.rebuild_answers.specs.Operations.{rebuild-answer, guided-answer};
 ghost use Rattle.rebuild_answers.specs.Meanings.{RebuildMeans, GuidedMeans};
 ghost use Rattle.sheet_rules.specs.Sheets.{leaves-of, offset-of, name-start, name};
@@ -173,6 +175,47 @@ pub extern "C" fn quartree_rebuild_guided(
         merges,
         out,
     ))
+}
+
+// Leaf n grafted on an edge: the listing and the table of the new tree, and grafted as the figure: 1, 2, 3, 7, 8, 4,
+// 5, 20.
+#[no_mangle]
+pub extern "C" fn quartree_graft(
+    n: usize,
+    listing: &[u16],
+    table: &[u32],
+    edge: usize,
+    out: &mut [u16],
+    cells: &mut [u32],
+) -> u64
+    ensures answer { λ r. ⌜ r ≡ record-reply (change-record n (now (listing .entry)) (now (table .entry)) (Graft edge)
+        (length (now (out .entry))) (length (now (cells .entry)))) ⌝ }
+    ensures listing { λ _. ⌜ now (out .exit) ≡ written (change-answer n (now (listing .entry)) (now (table .entry))
+        (Graft edge) (length (now (out .entry))) (length (now (cells .entry)))) (now (out .entry)) ⌝ }
+    ensures table { λ _. ⌜ now (cells .exit) ≡ written (change-table n (now (listing .entry)) (now (table .entry))
+        (Graft edge) (length (now (out .entry))) (length (now (cells .entry)))) (now (cells .entry)) ⌝ }
+{
+    record_replies::record_reply(tree_changes::graft(n, listing, table, edge, out, cells))
+}
+
+// A leaf pruned: the same of the tree without it.
+#[no_mangle]
+pub extern "C" fn quartree_prune(
+    n: usize,
+    listing: &[u16],
+    table: &[u32],
+    leaf: usize,
+    out: &mut [u16],
+    cells: &mut [u32],
+) -> u64
+    ensures answer { λ r. ⌜ r ≡ record-reply (change-record n (now (listing .entry)) (now (table .entry)) (Prune leaf)
+        (length (now (out .entry))) (length (now (cells .entry)))) ⌝ }
+    ensures listing { λ _. ⌜ now (out .exit) ≡ written (change-answer n (now (listing .entry)) (now (table .entry))
+        (Prune leaf) (length (now (out .entry))) (length (now (cells .entry)))) (now (out .entry)) ⌝ }
+    ensures table { λ _. ⌜ now (cells .exit) ≡ written (change-table n (now (listing .entry)) (now (table .entry))
+        (Prune leaf) (length (now (out .entry))) (length (now (cells .entry)))) (now (cells .entry)) ⌝ }
+{
+    record_replies::record_reply(tree_changes::prune(n, listing, table, leaf, out, cells))
 }
 
 // Whether a sheet keeps the rules, and its leaf count as the figure: 13, 1, 14, 15, 16.

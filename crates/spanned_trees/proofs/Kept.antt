@@ -4,18 +4,18 @@
 use mathlib.Core.Path.{_≡_, refl, _∙_}
 use mathlib.Core.Logic.{inl, inr}
 use mathlib.Core.Bool.{Bool, true, false, _&&_, _||_, or-false, or-comm}
-use Prim.Native.Nat.{ℕ, _+_}
+use Prim.Native.Nat.{ℕ}
 use native.Mathlib.Omega.{arith}
 use borrow.Author.Tests.{eqb-true}
 use lib.Dec.{ltb, eqb}
 use Rattle.base.specs.Numbers.{indicator}
-use Rattle.base.proofs.Bools.{bool?, never, is-false, or-neither, or-absorb, and-both}
+use Rattle.base.proofs.Bools.{bool?, never, is-false, or-left, or-right, or-neither, or-absorb, and-both}
 use Rattle.base.proofs.Counts.{indicator-none, indicator-add}
 use Rattle.trees.specs.Trees.{Tree, leaf, node, LeafSet, leaves, occurrences}
 use Rattle.trees.specs.Quartets.{separates, paired}
-use Rattle.trees.proofs.Trees.{leaves-node, occurs-leaves}
+use Rattle.trees.proofs.Trees.{leaves-node, leaf-has, occurs-leaves}
 use Rattle.trees.proofs.Subtrees.{sub-of, the-edge}
-use Rattle.trees.proofs.Quartets.{separates-at, separates-ext, paired-leaf, paired-node, paired-root}
+use Rattle.trees.proofs.Quartets.{separates-at, separates-ext, paired-node, paired-root}
 use Rattle.spanned_trees.specs.Spans.{meets, kept}
 
 -- Pairing beside a subtree that has none of the four leaves.
@@ -140,6 +140,30 @@ module _ (v : LeafSet) where
   -- the leaves of what stays are leaves that stay
   pub kept-stays : (T : Tree) → meets v T ≡ true → (k : ℕ) → leaves (kept v T) k ≡ true → v k ≡ true
   kept-stays T h k q = (and-both (v k) (leaves T k) (rw (kept-leaves T h k) at q)) .0
+
+  -- what stays depends on the leaves of the tree alone
+  module _ (w : LeafSet) where
+    abbrev Agree : Tree → Type 0
+    Agree T = (k : ℕ) → leaves T k ≡ true → v k ≡ w k
+
+    agree-first : (A B : Tree) → Agree (node A B) → Agree A
+    agree-first A B e k h = e k (rw leaves-node (or-left _ _ h))
+
+    agree-second : (A B : Tree) → Agree (node A B) → Agree B
+    agree-second A B e k h = e k (rw leaves-node (or-right (leaves A k) _ h))
+
+    meets-same : (T : Tree) → Agree T → meets v T ≡ meets w T
+    unfolding meets
+    meets-same (leaf i) e = e i (leaf-has i)
+    meets-same (node A B) e = rw (meets-same A (agree-first A B e), meets-same B (agree-second A B e))
+
+    pub kept-same : (T : Tree) → Agree T → kept v T ≡ kept w T
+    unfolding kept
+    kept-same (leaf i) e = refl
+    kept-same (node A B) e =
+        let a = agree-first A B e in
+        let b = agree-second A B e in
+        rw (meets-same A a, meets-same B b, kept-same A a, kept-same B b)
 
   -- Four leaves that stay are paired as before.
   module _ (i j p q : ℕ) (vi : v i ≡ true) (vj : v j ≡ true) (vp : v p ≡ true) (vq : v q ≡ true) where

@@ -8,7 +8,7 @@ use native.Mathlib.Omega.{arith}
 use native.Mathlib.Decide.{decLt, ℕ-discrete}
 use Rattle.base.specs.Numbers.{indicator, count-below}
 use Rattle.base.proofs.Bools.{bool?}
-use Rattle.base.proofs.Counts.{count-le}
+use Rattle.base.proofs.Counts.{count-le, count-ext}
 use Rattle.trees.specs.Trees.{LeafSet}
 use Rattle.spanned_trees.specs.Spans.{Stays, rank}
 
@@ -24,6 +24,10 @@ module _ (v : LeafSet) where
   pub rank-most : (k : ℕ) → rank v k ≤ k
   unfolding rank
   rank-most k = count-le k v
+
+  pub rank-same : (w : LeafSet) (k : ℕ) → ((j : ℕ) → j < k → v j ≡ w j) → rank v k ≡ rank w k
+  unfolding rank
+  rank-same w k e = count-ext k v w e
 
   pub rank-less : (j k : ℕ) → j < k → v j ≡ true → rank v j < rank v k
   rank-less j zero l t = absurd (omega arith)

@@ -1,7 +1,7 @@
 -- The tree that the leaves which stay span: it is a tree on that many leaves, four leaves that stay are paired as
 -- before under their new numbers, and no other tree has these pairings. Each of the three steps, taking away,
 -- renumbering and rerooting, keeps the pairings.
-use mathlib.Core.Path.{_≡_, sym, _∙_}
+use mathlib.Core.Path.{_≡_, ap, sym, _∙_}
 use mathlib.Core.Bool.{true}
 use Prim.Native.Nat.{ℕ, _<_}
 use native.Mathlib.Omega.{arith}
@@ -10,16 +10,16 @@ use borrow.Author.Tests.{lt-ltb, le-ltb}
 use Rattle.base.proofs.Bools.{is-false, and-both}
 use Rattle.limits.specs.Limits.{IsLeafCount}
 use Rattle.trees.specs.Trees.{Tree, leaf, node, LeafSet, leaves, IsTree, ordered}
-use Rattle.trees.specs.Rerooting.{IsHeld}
+use Rattle.trees.specs.Rerooting.{IsHeld, rerooted}
 use Rattle.trees.specs.Renumbering.{renumbered}
 use Rattle.trees.specs.Quartets.{paired, pairing}
 use Rattle.trees.proofs.Trees.{occurrences-none}
 use Rattle.trees.proofs.Rerooting.{held-on, tree-held, rerooted-tree, rerooted-again, rerooted-paired}
-use Rattle.trees.proofs.Renumbering.{renumbered-of, renumbered-occurrences, renumbered-paired}
+use Rattle.trees.proofs.Renumbering.{renumbered-of, renumbered-ext, renumbered-occurrences, renumbered-paired}
 use Rattle.merging.proofs.SameTree.{pairings-ordered}
 use Rattle.spanned_trees.specs.Spans.{Stays, meets, kept, rank, spanned}
-use Rattle.spanned_trees.proofs.Ranks.{rank-most, rank-less, rank-one, rank-onto}
-use Rattle.spanned_trees.proofs.Kept.{meets-some, kept-occurrences, kept-leaves, kept-paired}
+use Rattle.spanned_trees.proofs.Ranks.{rank-most, rank-same, rank-less, rank-one, rank-onto}
+use Rattle.spanned_trees.proofs.Kept.{meets-some, kept-occurrences, kept-leaves, kept-same, kept-paired}
 
 module _ (n : ℕ) (v : LeafSet) (T : Tree) (h : IsTree n T) (many : 1 < rank v n) where
   -- the tree with leaf 0 put on, and what stays of it
@@ -74,6 +74,16 @@ module _ (n : ℕ) (v : LeafSet) (T : Tree) (h : IsTree n T) (many : 1 < rank v 
   pub spanned-tree : IsTree (rank v n) (spanned v T)
   unfolding spanned
   spanned-tree = rerooted-tree (rank v n) (renumbered (rank v) rest) many rest-held
+
+  -- it depends on which of the n leaves stay, and on nothing beyond
+  pub spanned-same : (w : LeafSet) → ((k : ℕ) → k < n → v k ≡ w k) → spanned v T ≡ spanned w T
+  unfolding spanned
+  spanned-same w e =
+      let leaf-low : (k : ℕ) → leaves rest k ≡ true → k < n = λ k q. rest-stays k q .0 in
+      let ranks = renumbered-ext (rank v) (rank w) rest (λ k q.
+      rank-same v w k (λ j l. e j (omega (arith, leaf-low k q)))) in
+      let stay = kept-same v w whole (λ k q. e k (held-on n whole held .within k q)) in
+      ap rerooted (ranks ∙ ap (renumbered (rank w)) stay)
 
   -- four leaves that stay are paired as before, under their new numbers
   pub spanned-paired :

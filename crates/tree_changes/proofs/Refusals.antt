@@ -1,12 +1,11 @@
--- What is judged before a tree is changed, one go after the other; and what holds where nothing is refused.
+-- What is judged before a tree is changed, one go after the other.
 use mathlib.Core.Path.{_≡_, ap, sym, _∙_}
 use mathlib.Core.Logic.{_≢_}
 use mathlib.Core.Bool.{Bool, true, false, _&&_}
 use mathlib.Core.List.{List, [], _∷_}
-use mathlib.Core.Option.{Option, none, some}
+use mathlib.Core.Option.{Option, none}
 use Prim.Native.Nat.{ℕ, _-_, _*_, _≤_, _<_}
 use native.Mathlib.Omega.{arith}
-use borrow.Author.Tests.{eq-eqb, ne-eqb}
 use lib.ListN.{length}
 use Rattle.base.proofs.Bools.{and-both}
 use Rattle.limits.specs.declared.Kind.the-variants.{Counts}
@@ -16,24 +15,22 @@ use Rattle.refusals.specs.declared.Refusal.the-variants.{LeafCount as Count, In
 use Rattle.refusals.specs.declared.Outcome.{Outcome}
 use Rattle.refusals.specs.declared.Outcome.the-variants.{Done, Refused}
 use Rattle.refusals.specs.Refusals.{refuse, judged, outcome-of}
-use Rattle.refusals.proofs.Answers.{refuse-none, judged-stops, judged-passes, judged-alone, judged-nest, judged-none}
-use Rattle.refusals.proofs.Answers.{go-stops, go-passes, call-passed}
+use Rattle.refusals.proofs.Answers.{refuse-passed, refuse-failed, judged-stops, judged-passes, judged-alone, judged-nest, judged-none}
+use Rattle.refusals.proofs.Answers.{go-stops, go-passes}
 use Rattle.checks.specs.Sizes.{right-count, count-refusal, length-refusal, room-refusal}
 use Rattle.checks.proofs.Sizes.{count-stops, count-passes, count-right, length-stops, length-passes, length-right}
 use Rattle.checks.proofs.Sizes.{room-stops, room-passes, room-right}
 use Rattle.trees.specs.Trees.{Tree}
 use Rattle.trees.specs.Listings.{rules-refusal, KeepsRules, tree-of}
-use Rattle.trees.specs.Tables.{table-of, is-own-table, IsTable, cells-refusal}
-use Rattle.trees.specs.Gaps.{total-gap}
-use Rattle.trees.proofs.Tables.{passes, own-exactly}
-use Rattle.trees.proofs.Gaps.{own-by-gap}
+use Rattle.trees.specs.Tables.{is-own-table, cells-refusal}
+use Rattle.trees.proofs.Tables.{passes-exactly, had-is-table, scale-one, own-exactly}
 use Rattle.listings.specs.Operations.{listing-refusal}
 use Rattle.listings.proofs.ListingRefusal.{rules-left}
 use Rattle.table_checks.specs.Operations.{table-refusal}
 use Rattle.table_checks.proofs.TableRefusal.{cells-left}
-use Rattle.tree_changes.specs.declared.Change.{Change}
-use Rattle.tree_changes.specs.Operations.{count-after, is-there, change-refusal}
-use Rattle.tree_changes.specs.inner.Sizes.{change-sizes-refusal}
+use Rattle.change_answers.specs.declared.Change.{Change}
+use Rattle.change_answers.specs.Operations.{count-after, is-there, change-refusal}
+use Rattle.tree_changes.specs.inner.Refusals.{change-sizes-refusal, cells-or-own-refusal}
 
 -- The sizes.
 module _ (n m numbers cells room space : ℕ) where
@@ -103,30 +100,46 @@ module _ (n m numbers cells room space : ℕ) where
         enough-cells = room-right _ _ (f .0);
       }
 
--- 20: what is named is absent, or the total gap tells whether the table is the tree's own.
-module _ (there : Bool) (n : ℕ) (t : List ℕ) (T : Tree) (is : IsTable n t) where
-  abbrev own-due : Option Refusal
-  own-due = refuse (there && is-own-table n t T) NotOwn
+-- The cells, and what is named: a tree's own table is never refused by 4 or 5.
+module _ (there : Bool) (n : ℕ) (t : List ℕ) (T : Tree) (k : IsLeafCount n) (long : length t ≡ n * n) where
+  abbrev fit : Bool
+  fit = there && is-own-table n t T
 
-  pub absent-told : there ≡ false → Refused NotOwn ≡ outcome-of own-due
-  unfolding refuse outcome-of
-  absent-told h = rw h
+  abbrev cells : Option Refusal
+  cells = cells-or-own-refusal there n t T
 
-  pub own-told : there ≡ true → total-gap n 1 t T ≡ 0 → Done ≡ outcome-of own-due
-  unfolding refuse outcome-of
-  own-told h z = rw (h, own-by-gap n t T is, eq-eqb (total-gap n 1 t T) 0 z)
+  pub fit-told : fit ≡ true → Done ≡ outcome-of cells
+  unfolding cells-or-own-refusal outcome-of
+  fit-told h =
+      let own = own-exactly n t T long .0 (and-both there (is-own-table n t T) h .1) in
+      let is = had-is-table n 1 t T (scale-one n t T .1 own) in
+      ap outcome-of (sym (judged-passes _ (passes-exactly n t .1 is .1) ∙ judged-alone _ ∙ refuse-passed NotOwn h))
 
-  pub other-told : there ≡ true → total-gap n 1 t T ≢ 0 → Refused NotOwn ≡ outcome-of own-due
-  unfolding refuse outcome-of
-  other-told h z = rw (h, own-by-gap n t T is, ne-eqb (total-gap n 1 t T) 0 z)
+  -- of what is judged of a table alone only 4 and 5 are left to arise
+  tabled : table-refusal Counts n t 0 0 ≡ cells-refusal n t
+  tabled = cells-left Counts n t 0 0 k long (omega arith)
 
--- All that is judged: the sizes, the rules, the cells, and whether the table is the tree's own.
+  module _ {q : Outcome} (told : q ≡ outcome-of (table-refusal Counts n t 0 0)) where
+    pub cells-stop : {r : Refusal} → q ≡ Refused r → q ≡ outcome-of cells
+    unfolding cells-or-own-refusal
+    cells-stop h = go-stops (cells-refusal n t) (told ∙ ap outcome-of tabled) _ h
+
+    pub unfit-told : fit ≡ false → q ≡ Done → Refused NotOwn ≡ outcome-of cells
+    unfolding cells-or-own-refusal outcome-of
+    unfit-told f h =
+        go-passes (cells-refusal n t) (told ∙ ap outcome-of tabled) (refuse fit NotOwn) h
+        (ap outcome-of (sym (refuse-failed NotOwn f)))
+
+-- All that is judged: the sizes, the rules, then the cells and what is named.
 module _ (n : ℕ) (l t : List ℕ) (c : Change) (room space : ℕ) where
   abbrev whole : Option Refusal
   whole = change-refusal n l t c room space
 
   abbrev own : Option Refusal
   own = refuse (is-there n c && is-own-table n t (tree-of n l)) NotOwn
+
+  abbrev due : Option Refusal
+  due = cells-or-own-refusal (is-there n c) n t (tree-of n l)
 
   abbrev sized : Option Refusal
   sized = change-sizes-refusal n (count-after n c) (length l) (length t) room space
@@ -170,48 +183,6 @@ module _ (n : ℕ) (l t : List ℕ) (c : Change) (room space : ℕ) where
         pub keeps : KeepsRules n l
         keeps = record { numbers = right .long; rules = sym listed ∙ g }
 
-        cells-left-next : whole ≡ judged (cells-refusal n t ∷ own ∷ [])
-        cells-left-next = rules-next ∙ judged-passes _ (keeps .rules)
-
-        -- and of a table alone 4 and 5
-        tabled : table-refusal Counts n t 0 0 ≡ cells-refusal n t
-        tabled = cells-left Counts n t 0 0 k (right .square) (omega arith)
-
-        pub cells-stop :
-            {q : Outcome} {r : Refusal} → q ≡ outcome-of (table-refusal Counts n t 0 0) → q ≡ Refused r
-            → q ≡ outcome-of whole
-        cells-stop told h =
-            go-stops (cells-refusal n t) (told ∙ ap outcome-of tabled) _ h ∙ ap outcome-of (sym cells-left-next)
-
-        module _ (f : table-refusal Counts n t 0 0 ≡ none) where
-          pub is-table : IsTable n t
-          is-table = passes n t (right .square) (sym tabled ∙ f)
-
-          pub own-decides : {q : Outcome} → q ≡ outcome-of own → q ≡ outcome-of whole
-          own-decides told =
-              told ∙ ap outcome-of (sym (cells-left-next ∙ judged-passes _ (sym tabled ∙ f) ∙ judged-alone own))
-
-  -- what is not refused
-  pub record Accepted : Type 0 where
-    pub count : IsLeafCount n
-    pub sizes : RightSizes n (count-after n c) (length l) (length t) room space
-    pub keeps : KeepsRules n l
-    pub there : is-there n c ≡ true
-    pub is-own : t ≡ table-of n (tree-of n l)
-
-  pub accepted-change : whole ≡ none → Accepted
-  accepted-change h =
-      let k = count-right Counts n (unfold change-refusal in judged-none (count-refusal n) _ h .0) in
-      let a = judged-none sized _ (sym (sizes-next k) ∙ h) in
-      let b = judged-none (rules-refusal n l) _ (a .1) in
-      let d = judged-none (cells-refusal n t) _ (b .1) in
-      let e = judged-none own _ (d .1) in
-      let both = and-both (is-there n c) (is-own-table n t (tree-of n l)) (refuse-none _ NotOwn (e .0)) in
-      let w = right k (a .0) in
-      record {
-        count = k;
-        sizes = w;
-        keeps = record { numbers = w .long; rules = b .0 };
-        there = both .0;
-        is-own = own-exactly n t (tree-of n l) (w .square) .0 (both .1);
-      }
+        pub cells-decide : {q : Outcome} → q ≡ outcome-of due → q ≡ outcome-of whole
+        unfolding cells-or-own-refusal
+        cells-decide told = told ∙ ap outcome-of (sym (rules-next ∙ judged-passes _ (keeps .rules)))

@@ -1,5 +1,7 @@
 // The operations that change a tree and keep its table beside it: graft and prune.
+use change_answers::Change;
 use limits::Kind;
+use own_tables::is_own_table;
 use refusals::Outcome;
 use refusals::Refusal;
 use tree_records::Origin;
@@ -11,24 +13,15 @@ ghost use mathlib.Core.List.{_++_};
 ghost use Prim.Native.Nat.{_-_, _*_, _≤_};
 ghost use lib.ListN.{length, take, drop};
 ghost use Rattle.limits.specs.Limits.{IsLeafCount};
-ghost use Rattle.refusals.specs.declared.Refusal.the-variants.{NotOwn};
-ghost use Rattle.refusals.specs.Refusals.{refuse, outcome-of, outcome, written};
+ghost use Rattle.refusals.specs.Refusals.{outcome-of, outcome, written};
 ghost use Rattle.tree_records.specs.Records.{tree-outcome};
 ghost use Rattle.trees.specs.Listings.{KeepsRules, tree-of, standard};
-ghost use Rattle.trees.specs.Tables.{table-of, is-own-table, IsTable};
+ghost use Rattle.trees.specs.Tables.{table-of, is-own-table};
 ghost use Rattle.grafted_trees.specs.Grafts.{names-edge};
-ghost use Rattle.tree_changes.specs.declared.Change.the-variants.{Graft, Prune};
-ghost use Rattle.tree_changes.specs.Operations.{count-after, is-there, changed, change-refusal};
-ghost use Rattle.tree_changes.specs.Operations.{change-answer, change-record, change-table};
-ghost use Rattle.tree_changes.specs.inner.Sizes.{change-sizes-refusal};
-
-// A change of a tree on n leaves.
-pub enum Change {
-    // leaf n is put on this edge, named by the node below it in the standard listing
-    Graft(usize),
-    // this leaf is removed, and higher leaves move down by one
-    Prune(usize),
-}
+ghost use Rattle.change_answers.specs.declared.Change.the-variants.{Graft, Prune};
+ghost use Rattle.change_answers.specs.Operations.{count-after, is-there, changed, change-refusal};
+ghost use Rattle.change_answers.specs.Operations.{change-answer, change-record, change-table};
+ghost use Rattle.tree_changes.specs.inner.Refusals.{change-sizes-refusal, cells-or-own-refusal};
 
 // How many leaves the tree has afterwards.
 fn count_after(n: usize, change: Change) -> usize
@@ -90,19 +83,31 @@ fn judge_sizes(
     Outcome::Done
 }
 
-// Whether what is named is there and the table is the tree's own: 20. The table has equal halves, so it is the tree's
-// own exactly where its total gap is 0.
-fn judge_own(there: bool, n: usize, listing: &[u16], table: &[u32]) -> Outcome
-    requires { ⌜ IsLeafCount n × KeepsRules n (now listing) × IsTable n (now table) ⌝ }
-    ensures { λ r. ⌜ r ≡ outcome-of
-        (refuse (there && is-own-table n (now (table .entry)) (tree-of n (now (listing .entry)))) NotOwn) ⌝ }
+// Whether what is named is there, and the table is the tree's own.
+fn fits(there: bool, n: usize, listing: &[u16], table: &[u32]) -> bool
+    requires { ⌜ IsLeafCount n × KeepsRules n (now listing) × (length (now table) ≡ n * n) ⌝ }
+    ensures { λ r. ⌜ r ≡ (there && is-own-table n (now (table .entry)) (tree-of n (now (listing .entry)))) ⌝ }
 {
     if !there {
-        return Outcome::Refused(Refusal::NotOwn);
+        return false;
     }
-    if total_gaps::total_gap(Kind::Counts, n, table, listing) == 0 {
+    is_own_table(n, listing, table)
+}
+
+// What is judged of a table, and of what is named: 4, 5, 20. A tree's own table is never refused by 4 or 5, so only
+// another is judged for them.
+fn judge_cells(there: bool, n: usize, listing: &[u16], table: &[u32]) -> Outcome
+    requires { ⌜ IsLeafCount n × KeepsRules n (now listing) × (length (now table) ≡ n * n) ⌝ }
+    ensures { λ r. ⌜ r ≡ outcome-of (cells-or-own-refusal there n (now (table .entry))
+        (tree-of n (now (listing .entry)))) ⌝ }
+{
+    if fits(there, n, listing, table) {
         return Outcome::Done;
     }
+    let cells = table_checks::judge(Kind::Counts, n, table, 0, 0);
+    let Outcome::Done = cells else {
+        return cells;
+    };
     Outcome::Refused(Refusal::NotOwn)
 }
 
@@ -130,11 +135,7 @@ fn judge(
     let Outcome::Done = rules else {
         return rules;
     };
-    let cells = table_checks::judge(Kind::Counts, n, table, 0, 0);
-    let Outcome::Done = cells else {
-        return cells;
-    };
-    judge_own(is_there(n, change), n, listing, table)
+    judge_cells(is_there(n, change), n, listing, table)
 }
 
 // Writes the standard listing of the changed tree at the front of `out`.
@@ -144,7 +145,16 @@ fn write_rows(change: Change, n: usize, listing: &[u16], out: &mut [u16])
     ensures { λ _. ⌜ now (out .exit)
         ≡ standard (count-after n change) (changed n (tree-of n (now (listing .entry))) change)
         ++ drop (2 * (count-after n change - 2)) (now (out .entry)) ⌝ }
-{}
+{
+    match change {
+        Change::Graft(edge) => {
+            grafted_rows::graft_rows(n, edge, listing, out);
+        }
+        Change::Prune(leaf) => {
+            spanned_rows::prune_rows(n, leaf, listing, out);
+        }
+    }
+}
 
 // Writes the table of the tree whose listing stands at the front of some numbers.
 fn write_table(n: usize, numbers: &[u16], out: &mut [u32])

@@ -1,6 +1,6 @@
 -- A row added after lawful rows, of two numbers that these have not used: the rows stay lawful, its node is not used,
--- and under the numbers before it stands what stood there. And a row added in an array.
-use mathlib.Core.Path.{_≡_, refl, _∙_}
+-- and under the numbers before it stands what stood there. A row added in an array; and lawful rows read one by one.
+use mathlib.Core.Path.{_≡_, refl, ap, sym, _∙_}
 use mathlib.Core.Logic.{_≢_}
 use mathlib.Core.Bool.{true}
 use mathlib.Core.List.{List, [], _∷_, _++_}
@@ -9,15 +9,15 @@ use native.Mathlib.Numerals.{add-one}
 use native.Mathlib.Omega.{arith}
 use borrow.Author.Tests.{ne-eqb}
 use lib.Dec.{eqb}
-use lib.ListN.{length, set, take, length-set}
-use lib.Seq.{take-suc-set, append-snoc}
+use lib.ListN.{length, getD, set, take, drop, length-set, take-append-drop}
+use lib.Seq.{take-suc, drop-cons, take-suc-set, append-snoc, length-take-le}
 use Rattle.base.proofs.Bools.{or-left, or-right, eqb-same}
 use Rattle.trees.specs.Trees.{leaf, node}
 use Rattle.trees.specs.Listings.{with-rows, subtree-at}
 use Rattle.trees.specs.inner.Forests.{unused, use-row, uses, lawful}
-use Rattle.trees.proofs.Forests.{lawful-row}
+use Rattle.trees.proofs.Forests.{lawful-row, LawfulRow, row-lawful}
 use Rattle.trees.proofs.SubtreesByRow.{rows-old}
-use Rattle.trees.proofs.Blocks.{with-rows-append, uses-append, lawful-append}
+use Rattle.trees.proofs.Blocks.{with-rows-append, uses-append, lawful-append, lawful-parts}
 
 module _ (n r : ℕ) (l : List ℕ) (long : length l ≡ 2 * r) (a b : ℕ) where
   abbrev row : List ℕ
@@ -61,3 +61,26 @@ row-stored rows m a b h =
     rw (next, add-one (2 * m))
     (take-suc-set (set rows (2 * m) a) (suc (2 * m)) b inside
     ∙ rw (take-suc-set rows (2 * m) a (omega arith)) (append-snoc (take (2 * m) rows) a (b ∷ [])))
+
+-- Lawful rows read one by one: the first r are lawful, and the next joins two numbers that they have not used.
+module _ (n : ℕ) (l : List ℕ) (r : ℕ) (inside : 2 * r + 1 < length l) where
+  pub next-row : take (2 * (r + 1)) l ≡ take (2 * r) l ++ (getD l (2 * r) 0 ∷ getD l (2 * r + 1) 0 ∷ [])
+  next-row =
+      let next : 2 * (r + 1) ≡ suc (suc (2 * r)) = omega arith in
+      let place : 2 * r + 1 ≡ suc (2 * r) = omega arith in
+      rw (next, place, take-suc l (suc (2 * r)) 0 (omega arith), take-suc l (2 * r) 0 (omega arith))
+      (append-snoc (take (2 * r) l) (getD l (2 * r) 0) (getD l (suc (2 * r)) 0 ∷ []))
+
+  pub rows-read :
+      lawful (unused n) n l ≡ true
+      → (lawful (unused n) n (take (2 * r) l) ≡ true)
+      × LawfulRow (uses (unused n) n (take (2 * r) l)) (n + r) (getD l (2 * r) 0) (getD l (2 * r + 1) 0)
+      (drop (suc (suc (2 * r))) l)
+  rows-read h =
+      let place : 2 * r + 1 ≡ suc (2 * r) = omega arith in
+      let whole : l ≡ take (2 * r) l ++ (getD l (2 * r) 0 ∷ getD l (suc (2 * r)) 0 ∷ drop (suc (suc (2 * r))) l) =
+      sym (take-append-drop (2 * r) l)
+      ∙ rw (drop-cons l (2 * r) 0 (omega arith), drop-cons l (suc (2 * r)) 0 (omega arith)) in
+      let parts = lawful-parts (unused n) n r (take (2 * r) l) _ (length-take-le (2 * r) l (omega arith))
+      (sym (ap (lawful (unused n) n) whole) ∙ h) in
+      (parts .0, rw place (row-lawful _ (n + r) _ _ _ (parts .1)))

@@ -1,6 +1,6 @@
 -- Renumbering: where f gives no two leaves one number, each leaf stands under its new number as often as before, and
 -- four leaves are paired as before.
-use mathlib.Core.Path.{_≡_, ap, sym, _∙_}
+use mathlib.Core.Path.{_≡_, refl, ap, sym, _∙_}
 use mathlib.Core.Logic.{inl, inr}
 use mathlib.Core.Bool.{true}
 use Prim.Native.Nat.{ℕ}
@@ -25,15 +25,25 @@ renumbered-of f (node A B) x h =
       | inr b ↦ (let r = renumbered-of f B x b in (r .0, rw leaves-node (or-right (leaves A (r .0)) _ (r .1)), r .2))
     ]
 
--- what f leaves as it is
-pub renumbered-same : (f : ℕ → ℕ) (S : Tree) → ((k : ℕ) → leaves S k ≡ true → f k ≡ k) → renumbered f S ≡ S
+-- only the numbers of the leaves matter
+pub renumbered-ext :
+    (f g : ℕ → ℕ) (S : Tree) → ((k : ℕ) → leaves S k ≡ true → f k ≡ g k) → renumbered f S ≡ renumbered g S
 unfolding renumbered
-renumbered-same f (leaf i) h = ap leaf (h i (leaf-has i))
-renumbered-same f (node A B) h =
+renumbered-ext f g (leaf i) h = ap leaf (h i (leaf-has i))
+renumbered-ext f g (node A B) h =
     rw (
-      renumbered-same f A (λ k p. h k (rw leaves-node (or-left _ _ p))),
-      renumbered-same f B (λ k p. h k (rw leaves-node (or-right (leaves A k) _ p))),
+      renumbered-ext f g A (λ k p. h k (rw leaves-node (or-left _ _ p))),
+      renumbered-ext f g B (λ k p. h k (rw leaves-node (or-right (leaves A k) _ p))),
     )
+
+own-numbers : (S : Tree) → renumbered (λ k. k) S ≡ S
+unfolding renumbered
+own-numbers (leaf i) = refl
+own-numbers (node A B) = rw (own-numbers A, own-numbers B)
+
+-- so what keeps them keeps the tree
+pub renumbered-same : (f : ℕ → ℕ) (S : Tree) → ((k : ℕ) → leaves S k ≡ true → f k ≡ k) → renumbered f S ≡ S
+renumbered-same f S h = renumbered-ext f (λ k. k) S h ∙ own-numbers S
 
 -- f gives no two leaves of v one number, and S has leaves of v only
 module _ (f : ℕ → ℕ) (v : LeafSet) (one : (j k : ℕ) → v j ≡ true → v k ≡ true → f j ≡ f k → j ≡ k) where

@@ -7,8 +7,9 @@ use Prim.Native.Nat.{ℕ}
 use lib.ListN.{length-replicate}
 use lib.Seq.{length-take-le}
 use Rattle.limits.specs.Limits.{most-leaves, most-numbers}
+use Rattle.rerooted_rows.proofs.Arrays.{chain-front}
 use Rattle.newick_rules.specs.Importing.{imported}
-use Rattle.newick_import.proofs.Answers.{import-refused, import-done, rows-listed}
+use Rattle.newick_import.proofs.Answers.{import-refused, import-done}
 use Rattle.newick_import.proofs.import_indexed.Statement.{statement}
 use Rattle.newick_import.proofs.import_indexed.Tie as tie
 
@@ -31,13 +32,13 @@ returns c =
     let said = c .before .before .read-text .ensures .outcome-is in
     (said, import-refused (imported _ _) _ _ (sym (c .enum-told2 .given .1) ∙ said))
 
-hang-requires : tie.Need-hang-requires
-hang-requires c κs =
+write-chain-requires : tie.Need-write-chain-requires
+write-chain-requires c κs =
     let told = c .before .before in
     told .before .before .read-text .ensures .drawn (told .enum-told .given .1) .room
 
 -- the call as it began
-abbrev started : tie.After-hang → tie.Start
+abbrev started : tie.After-write-chain → tie.Start
 started c =
     let told = c .before .before .before in
     told .before .before .before .before .before .before .before .before .before .before .before
@@ -53,26 +54,27 @@ array-share-prefix-rows c = omega (arith, started c .pre .0)
 
 slice-aggregate-standard-rows : tie.Need-slice-aggregate-standard-rows
 slice-aggregate-standard-rows c =
-    let hung = c .before in
-    sym (length-take-le _ _ (omega (arith, hung .hang .ensures .1, started hung .pre .0)))
+    let written = c .before in
+    sym (length-take-le _ _ (omega (arith, written .write-chain .ensures .1, started written .pre .0)))
 
 standard-rows-requires : tie.Need-standard-rows-requires
 standard-rows-requires c κs =
-    let hung = c .before .before in
-    let told = hung .before .before .before in
+    let written = c .before .before in
+    let told = written .before .before .before in
     let drawn = told .before .before .read-text .ensures .drawn (told .enum-told .given .1) in
-    let s = started hung in
-    (s .pre .0, rw (rows-listed _ drawn (hung .hang .ensures .0)) (drawn .keeps), s .pre .3)
+    let s = started written in
+    let listed = chain-front _ (drawn .room) (drawn .keeps) (written .write-chain .ensures .0) in
+    (s .pre .0, rw listed (drawn .keeps), s .pre .3)
 
 returns-2 : tie.Need-returns-2
 returns-2 c =
     let put = c .before .before in
-    let hung = put .before .before .before in
-    let told = hung .before .before .before in
-    let s = started hung in
+    let written = put .before .before .before in
+    let told = written .before .before .before in
+    let s = started written in
     let said = told .before .before .read-text .ensures .outcome-is in
     let drawn = told .before .before .read-text .ensures .drawn (told .enum-told .given .1) in
-    let listed = rows-listed _ drawn (hung .hang .ensures .0) in
+    let listed = chain-front _ (drawn .room) (drawn .keeps) (written .write-chain .ensures .0) in
     let done = sym (told .enum-told .given .1) ∙ said in (
       said,
       put .standard-rows .ensures
@@ -86,7 +88,7 @@ import-indexed-spec =
     read-text-requires
     (λ c. search needs) (λ c. search needs)
     returns
-    hang-requires
+    write-chain-requires
     sub-end
     mul-end
     array-share-prefix-rows

@@ -7,6 +7,7 @@ use mathlib.Core.Option.{Option}
 use Prim.Native.Nat.{ℕ, _*_}
 use lib.ListN.{length, getD, take}
 use Rattle.limits.specs.Limits.{most-leaves, most-numbers}
+use Rattle.rerooted_rows.specs.inner.Arrays.{backwards}
 use Rattle.newick_rules.specs.Drawings.{Drawing}
 use Rattle.newick_rules.specs.Reader.{Open}
 use Rattle.newick_reading.specs.inner.Fitting.{all-ways, fits}
@@ -19,17 +20,20 @@ abbrev pub Piled : List ℕ → List ℕ → Type 0
 Piled cells [] = Unit {0}
 Piled cells (x ∷ l) = (getD cells (length l) 0 ≡ x) × Piled cells l
 
+-- the rows and the chain that the arrays hold
+abbrev pub rows-made : Kept → List ℕ → List ℕ
+rows-made K rows = take (2 * K .rows) rows
+
+abbrev pub chain-kept : Kept → List ℕ → List ℕ
+chain-kept K chain = backwards (K .chained) chain
+
 -- numbers, rows and chain as the arrays have them
 pub record Built (known : List (List ℕ)) (n : ℕ) (s : List Open) (d : Option Drawing) (K : Kept)
     (numbers rows chain : List ℕ) (seen : ℕ → Bool) : Type 0 where
   pub of-opens : List ℕ
-  pub of-rows : List ℕ
-  pub of-chain : List ℕ
-  pub keeps : Keeps known n s d of-opens (K .last) (K .rows) of-rows of-chain seen
   pub opens-held : Piled numbers of-opens
-  pub rows-held : take (2 * K .rows) rows ≡ of-rows
-  pub chain-held : Piled chain of-chain
-  pub chain-long : K .chained ≡ length of-chain
+  pub keeps :
+      Keeps known n s d of-opens (K .last) (K .rows) (rows-made K rows) (chain-kept K chain) seen
 
 -- What is kept, with these brackets open and this drawing last. Parts are counted while all nodes fit, and rows are
 -- written while the names are right as well.

@@ -4,47 +4,19 @@ use mathlib.Core.Logic.{_≢_}
 use mathlib.Core.Bool.{Bool, false, cond}
 use mathlib.Core.List.{List, _∷_}
 use mathlib.Core.Option.{Option, none, some}
-use Prim.Native.Nat.{ℕ, suc, _+_, _*_, _≤_, _<_}
+use Prim.Native.Nat.{ℕ, suc, _≤_, _<_}
 use lib.Dec.{ltb, eqb}
 use lib.ListN.{length, getD, set}
-use Rattle.limits.specs.Limits.{most-leaves, most-numbers, IsLeafCount}
+use Rattle.limits.specs.Limits.{most-leaves, IsLeafCount}
 use Rattle.sheet_rules.specs.Sheets.{between}
+use Rattle.rerooted_rows.specs.declared.Joined.{Joined}
+use Rattle.rerooted_rows.specs.inner.Arrays.{JoinFits, Joins}
 use Rattle.newick_rules.specs.Drawings.{Drawing, bracket}
 use Rattle.newick_rules.specs.Reader.{Open, with-part, Place}
 use Rattle.newick_rules.specs.Importing.{deepest}
 use Rattle.newick_reading.specs.inner.Moves.{opens-of, last-of, Moved}
-use Rattle.newick_reading.specs.inner.Joining.{joined-number, joined-count}
 use Rattle.newick_parts.specs.declared.Kept.{Kept}
-use Rattle.newick_parts.specs.declared.Joined.{Joined}
 use Rattle.newick_parts.specs.inner.Keeping.{KeptAt}
-
--- Two subtrees with the numbers a and b are joined in the arrays, after m rows, with so many numbers in the chain: the
--- arrays then, and how many numbers the chain has. Its array holds it backwards.
-unfoldable pub stored-rows : (a b m : ℕ) → List ℕ → List ℕ
-stored-rows a b m rows = cond (eqb a 0) rows (cond (eqb b 0) rows (set (set rows (2 * m) a) (2 * m + 1) b))
-
-unfoldable pub stored-chain : (a b chained : ℕ) → List ℕ → List ℕ
-stored-chain a b chained chain = cond (eqb a 0) (set chain chained b) (cond (eqb b 0) (set chain chained a) chain)
-
-unfoldable pub stored-length : (a b chained : ℕ) → ℕ
-stored-length a b chained = cond (eqb a 0) (chained + 1) (cond (eqb b 0) (chained + 1) chained)
-
--- the arrays have room for it
-pub record JoinFits (n a b m chained : ℕ) (rows chain : List ℕ) : Type 0 where
-  pub few : n ≤ most-leaves
-  pub m-low : m < most-leaves
-  pub row-room : a ≢ 0 → b ≢ 0 → 2 * m + 1 < most-numbers
-  pub chain-room : chained < most-leaves
-  pub rows-long : length rows ≡ most-numbers
-  pub chain-long : length chain ≡ most-leaves
-
--- and this is what the arrays, the counts and the number are then
-pub record Joins (n a b m chained : ℕ) (rows chain rows′ chain′ : List ℕ) (r : Joined) : Type 0 where
-  pub number-is : r .number ≡ joined-number n m a b
-  pub count-is : r .rows ≡ joined-count a b m
-  pub length-is : r .chained ≡ stored-length a b chained
-  pub rows-are : rows′ ≡ stored-rows a b m rows
-  pub chain-are : chain′ ≡ stored-chain a b chained chain
 
 -- One more part is joined to those of the bracket at this place, which has c so far.
 pub record PartFits (n place c : ℕ) (K : Kept) (numbers rows chain : List ℕ) : Type 0 where

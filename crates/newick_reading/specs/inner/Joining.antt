@@ -1,66 +1,15 @@
--- The rows of the tree that a text draws, in numbers of a listing, as they are written while the text is read. The
--- parts of an open bracket so far are joined to one subtree, which has a number. Two subtrees without leaf 0 are joined
--- by a row. If one of the two has leaf 0, no row is written: what they make has the number 0, and the number of the
--- other is put before the chain. When the text is read, the chain holds the subtrees beside the way from leaf 0 to the
--- top, and the rows of the tree rerooted at leaf 0 are made of it. No public contract cites this.
-use mathlib.Core.Path.{_≡_}
-use mathlib.Core.Logic.{_⊎_}
-use mathlib.Core.Bool.{Bool, true, false, not, cond, _&&_, _||_}
+-- The subtrees of a text while it is read: the parts of an open bracket so far are joined to one subtree, which has a
+-- number, and so has the last drawing. No public contract cites this.
+use mathlib.Core.Bool.{Bool}
 use mathlib.Core.List.{List, [], _∷_, _++_}
 use mathlib.Core.Option.{Option, none, some}
-use Prim.Native.Nat.{ℕ, suc, _+_, _*_}
-use lib.Dec.{ltb, eqb}
-use lib.ListN.{length}
-use Rattle.base.specs.Numbers.{indicator}
-use Rattle.trees.specs.Trees.{Tree, leaf, node, leaves}
+use Prim.Native.Nat.{ℕ}
+use Rattle.trees.specs.Trees.{Tree}
 use Rattle.trees.specs.Listings.{subtree-at}
-use Rattle.trees.specs.inner.Forests.{unused, uses, lawful}
+use Rattle.rerooted_rows.specs.inner.Joining.{Stands, Accounted}
 use Rattle.newick_rules.specs.Drawings.{Drawing}
 use Rattle.newick_rules.specs.Reader.{Open}
 use Rattle.newick_rules.specs.Importing.{subtree, subtree-of-parts}
-
--- how often a number stands in a list
-unfoldable pub copies : ℕ → List ℕ → ℕ
-copies x [] = 0
-copies x (y ∷ l) = indicator (eqb x y) 1 + copies x l
-
--- Two subtrees with the numbers a and b are joined, after m rows: the number of what they make, and then the chain, the
--- rows and how many of them there are.
-unfoldable pub joined-number : (n m a b : ℕ) → ℕ
-joined-number n m a b = cond (eqb a 0) 0 (cond (eqb b 0) 0 (n + m))
-
-unfoldable pub joined-chain : (a b : ℕ) → List ℕ → List ℕ
-joined-chain a b chain = cond (eqb a 0) (b ∷ chain) (cond (eqb b 0) (a ∷ chain) chain)
-
-unfoldable pub joined-rows : (a b : ℕ) → List ℕ → List ℕ
-joined-rows a b rows = cond (eqb a 0) rows (cond (eqb b 0) rows (rows ++ (a ∷ b ∷ [])))
-
-unfoldable pub joined-count : (a b m : ℕ) → ℕ
-joined-count a b m = cond (eqb a 0) m (cond (eqb b 0) m (m + 1))
-
--- the rows that a chain makes at the end, the first of them node r's: what lies above is joined to one number after the
--- other
-unfoldable pub chain-rows : (r above : ℕ) → List ℕ → List ℕ
-chain-rows r above [] = []
-chain-rows r above (c ∷ chain) = above ∷ c ∷ chain-rows (suc r) r chain
-
--- the tree that these rows make
-unfoldable pub grown : (ℕ → Tree) → Tree → List ℕ → Tree
-grown f above [] = above
-grown f above (c ∷ chain) = grown f (node above (f c)) chain
-
--- a subtree that has leaf 0 hangs off the chain: of each node on the way from its top to leaf 0 the other child has a
--- number there, the topmost the first
-abbrev pub Hangs : (ℕ → Tree) → List ℕ → Tree → Type 0
-Hangs f chain (leaf i) = (i ≡ 0) × (chain ≡ [])
-Hangs f chain (node A B) =
-    (c : ℕ) × (older : List ℕ) × (chain ≡ c ∷ older)
-    × (((leaves A 0 ≡ true) × Hangs f older A × (f c ≡ B)) ⊎ ((leaves A 0 ≡ false) × Hangs f older B × (f c ≡ A)))
-
--- a number stands for a subtree: it is the number of that, or 0 where that hangs off the chain
-abbrev pub Stands : (ℕ → Tree) → List ℕ → ℕ → Tree → Type 0
-Stands f chain x T =
-    ((leaves T 0 ≡ false) × (f x ≡ T)) ⊎ ((leaves T 0 ≡ true) × (x ≡ 0) × Hangs f chain T)
 
 -- each open bracket has a number, the innermost first, which stands for its parts if there are any
 abbrev pub OpensStand : (known : List (List ℕ)) → (ℕ → Tree) → List ℕ → List Open → List ℕ → Type 0
@@ -86,21 +35,6 @@ numbers-of-opens (some p ∷ s) (a ∷ l) = a ∷ numbers-of-opens s l
 unfoldable pub number-of-last : Option Drawing → ℕ → List ℕ
 number-of-last none x = []
 number-of-last (some d) x = x ∷ []
-
--- a leaf that no name has named yet
-unfoldable pub unseen : ℕ → (ℕ → Bool) → ℕ → Bool
-unseen n seen x = ltb x n && not (seen x)
-
--- After m rows: they are lawful, and each number that they have not used, and leaf 0, is one of these: a leaf that no
--- name has named, a number of the chain, or one of the others; and it is that once.
-pub record Accounted (n m : ℕ) (rows chain others : List ℕ) (seen : ℕ → Bool) : Type 0 where
-  pub long : length rows ≡ 2 * m
-  pub kept : lawful (unused n) n rows ≡ true
-  pub each-once :
-      (x : ℕ) → copies x others + copies x chain + indicator (unseen n seen x) 1
-      ≡ indicator (eqb x 0 || uses (unused n) n rows x) 1
-  pub no-zero : copies 0 chain ≡ 0
-  pub fresh : seen 0 ≡ false → chain ≡ []
 
 -- What is kept of a text, with these brackets open and this drawing last: numbers, the last one, m rows, the chain, and
 -- which leaves were named.

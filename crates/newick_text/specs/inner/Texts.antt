@@ -14,6 +14,7 @@ use Rattle.refusals.specs.Refusals.{refuse, judged, outcome}
 use Rattle.trees.specs.Listings.{KeepsRules, tree-of}
 use Rattle.trees.specs.Rerooting.{rerooted}
 use Rattle.sheet_rules.specs.Sheets.{names-of}
+use Rattle.rerooted_rows.specs.inner.Arrays.{with-chain, ChainFits}
 use Rattle.newick_rules.specs.Drawings.{Drawing}
 use Rattle.newick_rules.specs.Reader.{Place, due, in-name, behind, at-length, in-length, ended, draws, read-on, read}
 use Rattle.newick_rules.specs.Importing.{deepest, subtree, imported}
@@ -24,7 +25,6 @@ use Rattle.newick_parts.specs.declared.Kept.{Kept}
 use Rattle.newick_parts.specs.inner.Keeping.{KeptAt}
 use Rattle.newick_text.specs.declared.Read.{Read}
 use Rattle.newick_text.specs.inner.Names.{word-at, flags, Indexed}
-use Rattle.newick_text.specs.inner.Chains.{with-chain, ChainFits}
 
 -- where the name begins that the next byte may be in, and its hash so far
 unfoldable pub next-from : (state from k : ℕ) → ℕ

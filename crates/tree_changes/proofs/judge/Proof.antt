@@ -1,25 +1,20 @@
--- `tree_changes::judge` meets its contract: the first leaf count stops it, or the sizes do, or the rules, or the cells,
--- or it is decided by what is named and by the tree's own table.
+-- `tree_changes::judge` meets its contract: the first leaf count stops it, or the sizes do, or the rules, or the cells
+-- decide and what is named.
 use mathlib.Core.Path.{_≡_, ap, sym, _∙_}
-use mathlib.Core.Bool.{_&&_}
 use mathlib.Core.Option.{none}
 use borrow.Author.Needs.{needs}
 use borrow.Author.Tests.{not-true, not-false}
 use lib.ListN.{length}
-use Rattle.limits.specs.declared.Kind.the-variants.{Counts}
 use Rattle.limits.specs.Limits.{IsLeafCount}
-use Rattle.refusals.specs.declared.Refusal.the-variants.{NotOwn}
-use Rattle.refusals.specs.Refusals.{refuse, outcome-of}
+use Rattle.refusals.specs.Refusals.{outcome-of}
 use Rattle.refusals.proofs.Answers.{call-passed}
 use Rattle.checks.proofs.Sizes.{is-leaf-count}
 use Rattle.trees.specs.Listings.{tree-of}
-use Rattle.trees.specs.Tables.{is-own-table}
 use Rattle.listings.specs.Operations.{listing-refusal}
-use Rattle.table_checks.specs.Operations.{table-refusal}
-use Rattle.tree_changes.specs.Operations.{count-after}
-use Rattle.tree_changes.specs.inner.Sizes.{change-sizes-refusal}
-use Rattle.tree_changes.proofs.Refusals.{first-count-told, sizes-stop, rules-stop, cells-stop, own-decides}
-use Rattle.tree_changes.proofs.Refusals.{keeps, is-table}
+use Rattle.change_answers.specs.Operations.{count-after}
+use Rattle.tree_changes.specs.inner.Refusals.{change-sizes-refusal, cells-or-own-refusal}
+use Rattle.tree_changes.proofs.Refusals.{first-count-told, sizes-right, sizes-stop, rules-stop, keeps}
+use Rattle.tree_changes.proofs.Refusals.{cells-decide}
 use Rattle.tree_changes.proofs.judge.Statement.{statement}
 use Rattle.tree_changes.proofs.judge.Tie as tie
 
@@ -68,46 +63,33 @@ returns-3 c =
     let s = made .before in
     rules-stop _ _ _ _ _ _ (first s) (fine s) (made .judge .ensures) (c .enum-told4 .given .1)
 
--- nor of the rules, nor of the cells
+-- nor of the rules
 ruled :
     (c : tie.After-enum-told3)
     → let a = c .before .before .before .before .before .before .before .before .before .before .before .args in
     listing-refusal (a .n) (a .listing .now) 0 0 ≡ none
 ruled c = call-passed _ (c .before .before .judge .ensures) (c .enum-told3 .given .1)
 
-returns-4 : tie.Need-returns-4
-returns-4 c =
-    let made = c .before .before in
-    let s = made .before .before .before .before in
-    cells-stop _ _ _ _ _ _ (first s) (fine s) (ruled (made .before)) (made .judge2 .ensures) (c .enum-told6 .given .1)
-
-is-there-requires : tie.Need-is-there-requires
-is-there-requires c κs = first (c .before .before .before .before .before .before)
-
-judge-own-requires : tie.Need-judge-own-requires
-judge-own-requires c κs =
-    let passed = c .before in
-    let listed = passed .before .before .before in
+judge-cells-requires : tie.Need-judge-cells-requires
+judge-cells-requires c κs =
+    let listed = c .before in
     let s = listed .before .before .before in
     let a = s .before .before .before .before .before .before .before .before .args in
-    let tabled = call-passed _ (passed .before .before .judge2 .ensures) (passed .enum-told5 .given .1) in (
+    let right = sizes-right _ _ _ _ _ _ (fine s) in (
       first s,
       keeps (a .n) (a .listing .now) (a .table .now) (a .change) (a .room) (a .space) (first s) (fine s) (ruled listed),
-      is-table (a .n) (a .listing .now) (a .table .now) (a .change) (a .room) (a .space) (first s) (fine s)
-      (ruled listed) tabled,
+      right .square,
     )
 
-returns-5 : tie.Need-returns-5
-returns-5 c =
-    let passed = c .before .before in
-    let listed = passed .before .before .before in
+returns-4 : tie.Need-returns-4
+returns-4 c =
+    let listed = c .before .before in
     let s = listed .before .before .before in
     let a = s .before .before .before .before .before .before .before .before .args in
-    let tabled = call-passed _ (passed .before .before .judge2 .ensures) (passed .enum-told5 .given .1) in
-    own-decides (a .n) (a .listing .now) (a .table .now) (a .change) (a .room) (a .space) (first s) (fine s)
-    (ruled listed) tabled
-    (c .judge-own .ensures
-    ∙ ap (λ b. outcome-of (refuse (b && is-own-table (a .n) (a .table .now) (tree-of (a .n) (a .listing .now))) NotOwn))
+    cells-decide (a .n) (a .listing .now) (a .table .now) (a .change) (a .room) (a .space) (first s) (fine s)
+    (ruled listed)
+    (c .judge-cells .ensures
+    ∙ ap (λ b. outcome-of (cells-or-own-refusal b (a .n) (a .table .now) (tree-of (a .n) (a .listing .now))))
     (c .before .is-there .ensures))
 
 pub judge-spec : {M : Type 1} → statement M
@@ -122,8 +104,6 @@ judge-spec =
     returns-2
     (λ c κs. search needs) (λ c. search needs) (λ c. search needs)
     returns-3
-    (λ c κs. search needs) (λ c. search needs) (λ c. search needs)
-    returns-4
-    is-there-requires
-    judge-own-requires
-    returns-5)
+    (λ c κs. first (c .before .before .before))
+    judge-cells-requires
+    returns-4)

@@ -1,0 +1,5 @@
+pub mod Changes
+pub mod Accepted
+pub mod GraftsPruned
+pub mod PrunesGrafted
+pub mod Promises

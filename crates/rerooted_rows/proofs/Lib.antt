@@ -1,0 +1,4 @@
+pub mod Joining
+pub mod Finishing
+pub mod Arrays
+pub mod Chains
