@@ -21,7 +21,8 @@ use Rattle.leaf_orders.specs.inner.Orders.{most-sum, whole, at, IsPlan}
 use Rattle.leaf_orders.proofs.LeafOrders.{place-in, leaf-at}
 use Rattle.leaf_orders.proofs.Planned as planned
 use Rattle.leaf_orders.proofs.Rows.{pairs-small}
-use Rattle.least_depths.specs.inner.Depths.{LeafOrder, LeastDepths, TopsFrom, count-in, RowFound}
+use Rattle.least_depths.specs.inner.Depths.{LeafOrder, LeastDepths, TopsFrom, TopsBefore, count-in}
+use Rattle.least_depths.specs.inner.Depths.{RowFound}
 use Rattle.least_depths.specs.inner.Rows.{TableRowFits, RowsHold}
 use Rattle.least_depths.proofs.Meeting.{Meets, meets}
 
@@ -96,12 +97,9 @@ module _ (n : ℕ) (l : List ℕ) (count : IsLeafCount n) (keeps : KeepsRules n 
 
     -- what `next_row` asks at place s
     pub next-asked :
-        {s : ℕ} (tops : List ℕ) → s < n → length tops ≡ most-leaves
-        → (0 < s → TopsFrom n aboves order depths (s - 1) tops)
-        → LeafOrder n order × (s < n) × (at aboves (at order s) ≤ most-sum) × (length tops ≡ most-leaves)
-        × (0 < s → TopsFrom n aboves order depths (s - 1) tops)
-    next-asked {s} tops ls long last =
-        (leaf-order, ls, above-small (at order s) (leaf-order .below s ls), long, last)
+        {s : ℕ} {tops : List ℕ} → s < n → TopsBefore n aboves order depths s tops
+        → LeafOrder n order × (s < n) × (at aboves (at order s) ≤ most-sum) × TopsBefore n aboves order depths s tops
+    next-asked {s} ls before = (leaf-order, ls, above-small (at order s) (leaf-order .below s ls), before)
 
     -- the counts of row i
     module _ {i base : ℕ} {tops : List ℕ} (li : i < n) (eb : base ≡ at aboves i)

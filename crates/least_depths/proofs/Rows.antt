@@ -2,7 +2,7 @@
 -- one cell more of it; and one row more of the rows in the order of the places.
 use mathlib.Core.Path.{_≡_, refl, sym, _∙_}
 use mathlib.Core.List.{List}
-use Prim.Native.Nat.{ℕ, _+_, _*_, _/_, _≤_, _<_}
+use Prim.Native.Nat.{ℕ, _+_, _-_, _*_, _/_, _≤_, _<_}
 use native.Mathlib.Nat.{add-zero}
 use native.Mathlib.Omega.{arith}
 use native.Mathlib.Decide.{ℕ-discrete}
@@ -12,7 +12,7 @@ use Rattle.base.proofs.Filling.{cell-more}
 use Rattle.limits.specs.Limits.{most-leaves, most-cells}
 use Rattle.limits.proofs.TablePlaces.{place-small}
 use Rattle.leaf_orders.specs.inner.Orders.{whole, at}
-use Rattle.least_depths.specs.inner.Depths.{most-depth}
+use Rattle.least_depths.specs.inner.Depths.{most-depth, TopsFrom, TopsBefore}
 use Rattle.least_depths.specs.inner.Rows.{TableRowFits, RowWritten, RowsHold}
 
 module _ {n i base room : ℕ} {aboves tops : List ℕ} (fit : TableRowFits n i base aboves tops room) (j : ℕ)
@@ -43,7 +43,15 @@ module _ {A : Type 0} {n i : ℕ} {value : ℕ → A} where
       {before out : List A} {j : ℕ} → j ≡ n → RowWritten n i value before out j → RowWritten n i value before out n
   row-whole e w = rw e at w
 
--- no row, and one more
+-- no row of those in the order of the places, and one more: what is kept of the last, and what the rows hold
+module _ {n : ℕ} {aboves order depths tops : List ℕ} where
+  pub tops-none : length tops ≡ most-leaves → TopsBefore n aboves order depths 0 tops
+  tops-none long = record { long = long; last = λ l. absurd (omega arith) }
+
+  pub tops-more : {p : ℕ} → TopsFrom n aboves order depths p tops → TopsBefore n aboves order depths (p + 1) tops
+  tops-more {p} t =
+      let this : p + 1 - 1 ≡ p = omega arith in record { long = t .long; last = λ l. rw this t }
+
 module _ {n : ℕ} {order cells : List ℕ} {f : ℕ → ℕ} where
   pub rows-none : RowsHold n order f cells 0
   rows-none = record { right = λ k q l e. absurd (omega arith) }

@@ -10,7 +10,7 @@ ghost use lib.ListN.{length, getD, set};
 ghost use Rattle.limits.specs.Limits.{most-leaves};
 ghost use Rattle.leaf_orders.specs.inner.Orders.{most-sum, whole};
 ghost use Rattle.least_depths.specs.inner.Depths.{most-depth, LeafOrder, LeastBetween, After, Before};
-ghost use Rattle.least_depths.specs.inner.Depths.{LeastDepths, TopsFrom, count-in};
+ghost use Rattle.least_depths.specs.inner.Depths.{LeastDepths, TopsFrom, TopsBefore, count-in};
 
 // No depth is larger.
 const MOST_DEPTH: u32 = (3 * MOST_LEAVES * MOST_LEAVES) as u32;
@@ -208,8 +208,7 @@ pub fn next_row<'a>(
     tops: &mut [u32; MOST_LEAVES],
 ) -> u32
     requires { ⌜ LeafOrder n (now order) × (p < n) × (getD (now aboves) (getD (now order) p 0) 0 ≤ most-sum)
-        × (length (now tops) ≡ most-leaves)
-        × (0 < p → TopsFrom n (now aboves) (now order) (now depths) (p - 1) (now tops)) ⌝ }
+        × TopsBefore n (now aboves) (now order) (now depths) p (now tops) ⌝ }
     ensures { λ r. ⌜ (r ≡ getD (now (aboves .entry)) (getD (now (order .entry)) p 0) 0)
         × TopsFrom n (now (aboves .entry)) (now (order .entry)) (now (depths .entry)) p (now (tops .exit)) ⌝ }
 {

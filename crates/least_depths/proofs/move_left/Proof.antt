@@ -103,7 +103,8 @@ returns c =
         | yes l ↦
             let less : at (s .args .depths .now) (i .t) ≤ at (s .args .depths .now) (s .args .p) =
             omega (arith, stop (omega arith) (omega arith), i .inv .2 .bound (s .args .p) (i .inv .0) (omega arith)) in
-            rw (i .inv .4 v (inl l) (omega arith) ∙ same v (omega arith) (omega arith)) (before-still less l (i .inv .0) (s .pre .4 v a (omega arith)))
+            rw (i .inv .4 v (inl l) (omega arith) ∙ same v (omega arith) (omega arith))
+            (before-still less l (i .inv .0) (s .pre .4 v a (omega arith)))
         | no l ↦ i .inv .3 v (omega arith) b
       ],
       λ v a b. i .inv .4 v (inr a) b ∙ same v b (omega arith),

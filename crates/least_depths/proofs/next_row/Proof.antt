@@ -22,13 +22,13 @@ element-copy-out-base c = omega (arith, leaf-small (c .before))
 move-right-requires : tie.Need-move-right-requires
 move-right-requires c κs =
     let p = c .before .before .before .before .pre in
-    (p .0, omega arith, p .1, p .3, p .4 (omega arith) .after)
+    (p .0, omega arith, p .1, p .3 .long, p .3 .last (omega arith) .after)
 
 move-left-requires : tie.Need-move-left-requires
 move-left-requires c κs =
     let p = c .before .before .before .before .before .before .pre in
     let right = c .before .move-right .ensures in
-    (p .0, omega arith, p .1, right .0, λ s a b. rw (right .2 s (omega arith)) (p .4 (omega arith) .before s b))
+    (p .0, omega arith, p .1, right .0, λ s a b. rw (right .2 s (omega arith)) (p .3 .last (omega arith) .before s b))
 
 mul-tops : tie.Need-mul-tops
 mul-tops c = omega (arith, leaf-small (c .before .before .before .before .before .before .before))

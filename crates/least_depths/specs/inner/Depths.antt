@@ -40,6 +40,11 @@ abbrev pub TopsFrom : (n : ℕ) (aboves order depths : List ℕ) (p : ℕ) (tops
 TopsFrom n aboves order depths p tops =
     LeastDepths n order depths p (whole - (at aboves (at order p) + at aboves (at order p))) tops
 
+-- before the row at place p: the least depths from the place before it, if there is one
+pub record TopsBefore (n : ℕ) (aboves order depths : List ℕ) (p : ℕ) (tops : List ℕ) : Type 0 where
+  pub long : length tops ≡ most-leaves
+  pub last : 0 < p → TopsFrom n aboves order depths (p - 1) tops
+
 -- the count of the cell in column j: `base` is what branches off above the row's leaf
 abbrev pub count-in : (base : ℕ) (aboves tops : List ℕ) → ℕ → ℕ
 count-in base aboves tops j = base + at aboves j + at tops j - whole

@@ -1,12 +1,11 @@
 -- `tree_tables::fill_table` meets its contract: the rows of the leaves at the places before p are written.
-use mathlib.Core.Path.{_≡_, refl}
-use Prim.Native.Nat.{_+_, _-_, _≤_, _<_}
+use mathlib.Core.Path.{refl}
+use Prim.Native.Nat.{_-_, _≤_}
 use native.Mathlib.Omega.{arith}
 use borrow.Author.Needs.{needs}
-use lib.ListN.{length}
-use Rattle.limits.specs.Limits.{most-leaves}
 use Rattle.trees.specs.Tables.{table-of}
-use Rattle.least_depths.specs.inner.Depths.{TopsFrom}
+use Rattle.least_depths.specs.inner.Depths.{TopsBefore}
+use Rattle.least_depths.proofs.Rows.{tops-none, tops-more}
 use Rattle.least_depths.proofs.RowCounts.{cell-at, leaf-order, next-asked, next-fits, next-cells, all-rows}
 use Rattle.tree_tables.proofs.Rows.{RowsPut, rows-begun, row-put, rows-whole}
 use Rattle.tree_tables.proofs.fill_table.Statement.{statement}
@@ -14,8 +13,7 @@ use Rattle.tree_tables.proofs.fill_table.Tie as tie
 
 abbrev Inv-loop : tie.InvT-loop
 Inv-loop n listing out₀ aboves order depths tops₀ p₀ out tops p =
-    (p ≤ n) × (length tops ≡ most-leaves) × (0 < p → TopsFrom n aboves order depths (p - 1) tops)
-    × RowsPut n order (cell-at n listing) out₀ out p
+    (p ≤ n) × TopsBefore n aboves order depths p tops × RowsPut n order (cell-at n listing) out₀ out p
 
 abbrev μ-loop : tie.MeasureT-loop
 μ-loop n listing out₀ aboves order depths tops₀ p₀ out tops p = n - p
@@ -26,7 +24,7 @@ leaf-order-requires c κs =
     (p .0, p .1, refl, refl, refl, refl)
 
 loop-holds : tie.Need-loop-holds Inv-loop μ-loop
-loop-holds c = (omega arith, refl, λ l. absurd (omega arith), rows-begun)
+loop-holds c = (omega arith, tops-none refl, rows-begun)
 
 next-row-requires : tie.Need-next-row-requires Inv-loop μ-loop
 next-row-requires c κs =
@@ -34,7 +32,7 @@ next-row-requires c κs =
     let i = tested .before .loop in
     let made = tested .before .before in
     let s = made .before .before .before .before .before .before .before in
-    next-asked _ _ (s .pre .0) (s .pre .1) (made .leaf-order .ensures) (i .tops) (omega arith) (i .inv .1) (i .inv .2)
+    next-asked _ _ (s .pre .0) (s .pre .1) (made .leaf-order .ensures) (omega arith) (i .inv .1)
 
 write-row-requires : tie.Need-write-row-requires Inv-loop μ-loop
 write-row-requires c κs =
@@ -44,7 +42,7 @@ write-row-requires c κs =
     let made = tested .before .before in
     let s = made .before .before .before .before .before .before .before in
     next-fits _ _ (s .pre .0) (s .pre .1) (made .leaf-order .ensures) (tested .loop-test .taken) found
-    (omega (arith, s .pre .2, i .inv .3 .same-length))
+    (omega (arith, s .pre .2, i .inv .2 .same-length))
 
 loop-again : tie.Need-loop-again Inv-loop μ-loop
 loop-again c =
@@ -56,15 +54,11 @@ loop-again c =
     let plan = made .leaf-order .ensures in
     let inside = tested .loop-test .taken in
     let cell = next-cells _ _ (s .pre .0) (s .pre .1) plan inside found in
-    let this : i .p + 1 - 1 ≡ i .p = omega arith in (
-      omega arith,
-      found .1 .long,
-      λ l. rw this (found .1),
-      row-put (leaf-order _ _ (s .pre .0) (s .pre .1) plan) inside cell (i .inv .3) (c .before .before .write-row .ensures),
-    )
+    let o = leaf-order _ _ (s .pre .0) (s .pre .1) plan in
+    (omega arith, tops-more (found .1), row-put o inside cell (i .inv .2) (c .before .before .write-row .ensures))
 
 same-length : tie.Need-same-length Inv-loop μ-loop
-same-length c = c .before .loop .inv .3 .same-length
+same-length c = c .before .loop .inv .2 .same-length
 
 returns : tie.Need-returns Inv-loop μ-loop
 unfolding table-of
@@ -73,7 +67,7 @@ returns c =
     let made = c .before .before in
     let s = made .before .before .before .before .before .before .before in
     rows-whole (s .pre .2)
-    (all-rows _ _ (s .pre .0) (s .pre .1) (made .leaf-order .ensures) (omega arith) (i .inv .3 .put)) (i .inv .3)
+    (all-rows _ _ (s .pre .0) (s .pre .1) (made .leaf-order .ensures) (omega arith) (i .inv .2 .put)) (i .inv .2)
 
 pub fill-table-spec : {M : Type 1} → statement M
 fill-table-spec =
