@@ -1,5 +1,5 @@
--- Pruning the leaf just grafted gives back the old tree: its standard listing and its table. The idea: of the old leaves
--- the two trees have the same pairings, and no two trees have.
+-- Pruning the leaf just grafted gives back the old tree: its standard listing and its table. The idea: of the old
+-- leaves the two trees have the same pairings, and no two trees have.
 use mathlib.Core.Path.{_≡_, sym, _∙_}
 use mathlib.Core.Bool.{true}
 use Prim.Native.Nat.{ℕ, _+_, _-_, _<_}

@@ -69,7 +69,8 @@ module _ (n : ℕ) (l t : List ℕ) (c : Change) (room space : ℕ) (l′ : List
   stands : tree-of m l′ ≡ ordered X
   stands = rw listing-is (standard-stands m (accepted-all .new-count) X is-tree)
 
--- Four leaves that stay are paired as before: after a graft under their old numbers, after a prune under their new ones.
+-- Four leaves that stay are paired as before: after a graft under their old numbers, after a prune under their new
+-- ones.
 pub graft-keeps-pairings :
     (n : ℕ) (l t : List ℕ) (e room space : ℕ) (l′ : List ℕ) → change-answer n l t (Graft e) room space ≡ accepted l′
     → (a b c d : ℕ) → a < n → b < n → c < n → d < n
@@ -90,7 +91,8 @@ prune-keeps-pairings n l t x room space l′ given a b c d la lb lc ld da db dc 
     ∙ pruned-pairing n (tree-of n l) (listing-tree n (w .count) l (w .keeps)) x (ltb-true x n (w .there)) (w .count .0)
     a b c d la lb lc ld da db dc dd)
 
--- Pruning the leaf just grafted, with what the graft wrote and enough room: the old standard listing, and the old table.
+-- Pruning the leaf just grafted, with what the graft wrote and enough room: the old standard listing, and the old
+-- table.
 module _ (n : ℕ) (l t : List ℕ) (e room space : ℕ) (l′ t′ : List ℕ)
     (listing : change-answer n l t (Graft e) room space ≡ accepted l′)
     (table : change-table n l t (Graft e) room space ≡ accepted t′) (room′ space′ : ℕ) (enough : 2 * (n - 2) ≤ room′)

@@ -1,5 +1,5 @@
--- Every tree on n + 1 leaves is a graft of what pruning its leaf n leaves. The idea: in standard order the greatest leaf
--- comes second in its row, so that taking it out leaves its brother, whose number names the edge.
+-- Every tree on n + 1 leaves is a graft of what pruning its leaf n leaves. The idea: in standard order the greatest
+-- leaf comes second in its row, so that taking it out leaves its brother, whose number names the edge.
 use mathlib.Core.Path.{_≡_, refl, sym, _∙_}
 use mathlib.Core.Logic.{inl, inr}
 use mathlib.Core.Bool.{true, _&&_}
@@ -154,7 +154,8 @@ module _ (n : ℕ) (c : IsLeafCount n) (S : Tree) (h : IsTree (n + 1) S) where
   -- its least leaf is 1, and n is another
   taken : WithoutLeaf n (ordered S) n
   taken =
-      without-leaf n (ordered S) n (drawn .in-order) (λ k t. drawn .only k t .1) (drawn .has n (omega arith) (omega arith))
+      without-leaf n (ordered S) n (drawn .in-order) (λ k t. drawn .only k t .1)
+      (drawn .has n (omega arith) (omega arith))
       (omega (arith, c, least-le (ordered S) 1 (drawn .has 1 (omega arith) (omega (arith, c)))))
 
   abbrev T : Tree

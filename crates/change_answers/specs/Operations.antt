@@ -35,8 +35,8 @@ abbrev pub changed : ℕ → Tree → Change → Tree
 changed n T (Graft e) = grafted n T e
 changed n T (Prune x) = pruned x T
 
--- a listing and a table of n leaves, and room for those of the changed tree: 1 for both counts, 2 for both inputs, 3 for
--- both outputs, 7 and 8, 4, 5, then 20: what is named is absent, or the table is not the tree's own
+-- a listing and a table of n leaves, and room for those of the changed tree: 1 for both counts, 2 for both inputs, 3
+-- for both outputs, 7 and 8, 4, 5, then 20: what is named is absent, or the table is not the tree's own
 unfoldable pub change-refusal : (n : ℕ) (l t : List ℕ) (c : Change) (room space : ℕ) → Option Refusal
 change-refusal n l t c room space =
     let m = count-after n c in

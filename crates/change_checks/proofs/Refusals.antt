@@ -15,7 +15,8 @@ use Rattle.refusals.specs.declared.Refusal.the-variants.{LeafCount as Count, In
 use Rattle.refusals.specs.declared.Outcome.{Outcome}
 use Rattle.refusals.specs.declared.Outcome.the-variants.{Done, Refused}
 use Rattle.refusals.specs.Refusals.{refuse, judged, outcome-of}
-use Rattle.refusals.proofs.Answers.{refuse-passed, refuse-failed, judged-stops, judged-passes, judged-alone, judged-nest, judged-none}
+use Rattle.refusals.proofs.Answers.{refuse-passed, refuse-failed, judged-stops, judged-passes, judged-alone}
+use Rattle.refusals.proofs.Answers.{judged-nest, judged-none}
 use Rattle.refusals.proofs.Answers.{go-stops, go-passes}
 use Rattle.checks.specs.Sizes.{right-count, count-refusal, length-refusal, room-refusal}
 use Rattle.checks.proofs.Sizes.{count-stops, count-passes, count-right, length-stops, length-passes, length-right}
@@ -44,7 +45,8 @@ module _ (n m numbers cells room space : ℕ) where
   module _ (c : IsLeafCount m) where
     pub numbers-told : numbers ≢ 2 * (n - 2) → Refused InputLength ≡ outcome-of sizes
     unfolding change-sizes-refusal outcome-of
-    numbers-told h = ap outcome-of (sym (judged-passes _ (count-passes Counts m c) ∙ judged-stops _ (length-stops _ _ h)))
+    numbers-told h =
+        ap outcome-of (sym (judged-passes _ (count-passes Counts m c) ∙ judged-stops _ (length-stops _ _ h)))
 
     module _ (e : numbers ≡ 2 * (n - 2)) where
       cells-next :

@@ -29,7 +29,9 @@ row-judged {n} {i} {base} {aboves = aboves} {tops} {cells} {f} li counts w = rec
   all-right = λ all k e.
       let here : k ≡ i * n + k % n = sym (div-add-mod' k n) ∙ rw e in
       let full : n ≤ count-below n right-at = omega (arith, w .counted) in
-      ap (at cells) here ∙ eqb-true _ _ (count-full n right-at full (k % n) (mod-lt k (omega arith))) ∙ sym (counts k e);
+      ap (at cells) here
+      ∙ eqb-true _ _ (count-full n right-at full (k % n) (mod-lt k (omega arith)))
+      ∙ sym (counts k e);
   some-wrong = λ some. elim (bool? (all-below (n * n) (λ k. eqb (at cells k) (f k)))) [
     | inl own ↦ absurd (some (w .counted ∙ count-all n _ (same own)))
     | inr e ↦ e

@@ -39,7 +39,8 @@ module _ (m : ℕ) (c : IsLeafCount m) (T : Tree) (h : IsTree m T) (out rest : L
   front-table = rw front (standard-table m c T h)
 
   -- both results as they stand in the buffers
-  pub listing-put : (old : List ℕ) → rest ≡ drop (2 * (m - 2)) old → out ≡ standard m T ++ drop (length (standard m T)) old
+  pub listing-put :
+      (old : List ℕ) → rest ≡ drop (2 * (m - 2)) old → out ≡ standard m T ++ drop (length (standard m T)) old
   listing-put old e = put ∙ ap (λ z. standard m T ++ z) (e ∙ ap (λ k. drop k old) (sym numbers))
 
   pub table-put :

@@ -54,7 +54,9 @@ fine :
     ≡ none
 fine c = call-passed _ (sizes (c .before .before)) (c .enum-told .given .1)
 
-first : (c : tie.After-enum-told) → IsLeafCount (c .before .before .before .before .before .before .before .before .args .n)
+first :
+    (c : tie.After-enum-told)
+    → IsLeafCount (c .before .before .before .before .before .before .before .before .args .n)
 first c = count (c .before .before .before .before)
 
 returns-3 : tie.Need-returns-3

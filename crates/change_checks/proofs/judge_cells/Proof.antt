@@ -1,5 +1,5 @@
--- `change_checks::judge_cells` meets its contract: a table that fits is not judged further; another is refused by 4 or 5,
--- or else by 20.
+-- `change_checks::judge_cells` meets its contract: a table that fits is not judged further; another is refused by 4 or
+-- 5, or else by 20.
 use mathlib.Core.Path.{sym, _∙_}
 use borrow.Author.Needs.{needs}
 use Rattle.trees.specs.Listings.{tree-of}

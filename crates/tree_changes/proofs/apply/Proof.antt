@@ -1,5 +1,5 @@
--- `tree_changes::apply` meets its contract: nothing is written before all is judged; then the listing, then the table of
--- the tree that it stands for.
+-- `tree_changes::apply` meets its contract: nothing is written before all is judged; then the listing, then the table
+-- of the tree that it stands for.
 use mathlib.Core.Path.{refl}
 use borrow.Author.Needs.{needs}
 use lib.ListN.{length}
