@@ -1,8 +1,9 @@
 /* Measures every call of the part against plain C, and against the floor (its buffers read and written once); the
    rebuilds and the guess also against textbook neighbour joining, the table against counting quartets directly; import
-   also with long texts. Plain C of the table, of a poll, of the guess (plain_guess.c), of graft and prune
-   (plain_graft.c), and of all that judges names (plain_sheets.c), is of another algorithm. Where n leaves are said, a
-   graft makes a tree of n leaves and a prune is given one; the other tree has a leaf less.
+   also with long texts. The calls of leaf sets have a table of their own, with plain C that goes byte by byte. Plain C
+   of the splits, of the table, of a poll, of the guess (plain_guess.c), of graft and prune (plain_graft.c), and of all
+   that judges names (plain_sheets.c), is of another algorithm. Where n leaves are said, a graft makes a tree of n
+   leaves and a prune is given one; the other tree has a leaf less.
    Each figure is a ratio of medians of rounds that take turns in this one run; no bare time is printed. With a file
    name it draws the growth of the calls with the number of leaves there, as an SVG. */
 #define _POSIX_C_SOURCE 200809L
@@ -15,6 +16,7 @@
 #include <time.h>
 
 enum { MOST = 128, ROUNDS = 41, SHAPES = 3, COUNTS = 4, LONG = 1 << 20, TIES = 1 << 19, OFF = 20, DRAWN = 1 << 10 };
+enum { SET = QUARTREE_SET_BYTES, PAIRS = 1 << 10 };
 static const size_t counts[COUNTS] = {16, 32, 64, 128};
 static const char *const shapes[SHAPES] = {"comb", "balanced", "random"};
 static const uint64_t imported = 256 * QUARTREE_IMPORTED; /* an accepted reply with that origin */
@@ -28,6 +30,7 @@ static uint32_t fewer_cells[MOST * MOST], changed_cells[MOST * MOST], drawn[DRAW
 static int64_t gaps[MOST * MOST];
 static uint8_t sets[QUARTREE_SET_BYTES * MOST], bytes[4 * MOST], sheet[QUARTREE_SHEET_MOST_BYTES];
 static uint8_t text[QUARTREE_TEXT_BYTES(MOST)], text_out[QUARTREE_TEXT_BYTES(MOST)], long_text[LONG];
+static uint8_t first_sets[SET * PAIRS], second_sets[SET * PAIRS], equal_sets[SET * PAIRS], made_sets[SET * PAIRS];
 static struct quartree_record records[QUARTREE_POLL_RECORDS(32)], ties[TIES];
 static size_t sheet_len, text_len, long_len, turn;
 static volatile uint64_t sink;
@@ -218,6 +221,7 @@ static void make(int shape)
 {
     uint16_t expected[2 * MOST];
     uint32_t polled[32 * 32];
+    uint8_t plain_sets[QUARTREE_SPLIT_BYTES(MOST)];
     const size_t rows = 2 * (n - 2), size = rows * sizeof *standard;
     if (shape == 0)
         comb();
@@ -241,6 +245,10 @@ static void make(int shape)
     if (plain_restandardise(n, QUARTREE_IMPORTED, listing, standard) != imported
         || memcmp(standard, expected, size) != 0)
         fail("plain C restandardises otherwise");
+    plain_splits(n, listing, plain_sets);
+    if (quartree_splits(n, listing, rows, sets, QUARTREE_SPLIT_BYTES(n)) != 0
+        || memcmp(sets, plain_sets, QUARTREE_SPLIT_BYTES(n)) != 0)
+        fail("plain C lists other splits");
     plain_table(n, listing, table);
     if (memcmp(table, cells, n * n * sizeof *cells) != 0)
         fail("plain C makes another table");
@@ -661,6 +669,112 @@ static void print_texts(void)
     printf("\n");
 }
 
+/* ---- Leaf sets, which know no leaf count. ---- */
+
+/* Sets by chance, in pairs, and the first of each pair once more. */
+static void fill_sets(void)
+{
+    uint32_t seed = 1;
+    for (size_t k = 0; k < sizeof first_sets; k++) {
+        seed = seed * 1664525u + 1013904223u;
+        first_sets[k] = equal_sets[k] = (uint8_t)(seed >> 16);
+        second_sets[k] = (uint8_t)(seed >> 24);
+    }
+}
+
+/* Every pair once. They are inlined, so that the loop calls the function by its name, as a user's does. */
+static inline __attribute__((always_inline)) void make_sets(set_maker *call)
+{
+    uint64_t sum = 0;
+    for (size_t at = 0; at < sizeof made_sets; at += SET)
+        sum += call(first_sets + at, SET, second_sets + at, SET, made_sets + at, SET);
+    sink += sum;
+}
+static inline __attribute__((always_inline)) void compare_sets(set_comparer *call, const uint8_t *with)
+{
+    uint64_t sum = 0;
+    for (size_t at = 0; at < sizeof first_sets; at += SET)
+        sum += call(first_sets + at, SET, with + at, SET);
+    sink += sum;
+}
+
+static void join_ours(void) { make_sets(quartree_set_join); }
+static void join_words(void) { make_sets(plain_join); }
+static void join_single(void) { make_sets(single_join); }
+static void join_bytes(void) { make_sets(bytes_join); }
+static void make_idle(void) { make_sets(idle_maker); }
+static void intersect_ours(void) { make_sets(quartree_set_intersect); }
+static void intersect_words(void) { make_sets(plain_intersect); }
+static void intersect_single(void) { make_sets(single_intersect); }
+static void intersect_bytes(void) { make_sets(bytes_intersect); }
+static void equal_ours(void) { compare_sets(quartree_set_equal, equal_sets); }
+static void equal_words(void) { compare_sets(plain_equal, equal_sets); }
+static void equal_single(void) { compare_sets(single_equal, equal_sets); }
+static void equal_bytes(void) { compare_sets(bytes_equal, equal_sets); }
+static void equal_idle(void) { compare_sets(idle_comparer, equal_sets); }
+static void unequal_ours(void) { compare_sets(quartree_set_equal, second_sets); }
+static void unequal_words(void) { compare_sets(plain_equal, second_sets); }
+static void unequal_single(void) { compare_sets(single_equal, second_sets); }
+static void unequal_bytes(void) { compare_sets(bytes_equal, second_sets); }
+
+/* The same work by ours, by words, by one byte after the other, and by the bytes as gcc -O2 takes them; and the calls
+   alone. */
+enum { OURS, WORDS, SINGLE, BYTES, WAYS };
+static const struct {
+    const char *name;
+    void (*ways[WAYS])(void), (*idle)(void);
+} set_calls[] = {
+    {"set_join", {join_ours, join_words, join_single, join_bytes}, make_idle},
+    {"set_intersect", {intersect_ours, intersect_words, intersect_single, intersect_bytes}, make_idle},
+    {"set_equal of equal sets", {equal_ours, equal_words, equal_single, equal_bytes}, equal_idle},
+    {"set_equal of sets by chance", {unequal_ours, unequal_words, unequal_single, unequal_bytes}, equal_idle},
+};
+enum { SET_CALLS = sizeof set_calls / sizeof *set_calls };
+
+/* All ways make the same sets, and find the same of them equal; one bit more or less makes another set. */
+static void sets_alike(void)
+{
+    static uint8_t due[sizeof made_sets];
+    static set_comparer *const compare[WAYS] = {quartree_set_equal, plain_equal, single_equal, bytes_equal};
+    for (size_t c = 0; c < 2; c++) {
+        set_calls[c].ways[OURS]();
+        memcpy(due, made_sets, sizeof due);
+        for (int way = WORDS; way < WAYS; way++) {
+            memset(made_sets, 0, sizeof made_sets);
+            set_calls[c].ways[way]();
+            if (memcmp(made_sets, due, sizeof due) != 0)
+                fail("plain C makes other sets");
+        }
+    }
+    for (size_t k = 0; k < PAIRS; k++)
+        for (int way = OURS; way < WAYS; way++) {
+            uint8_t other[SET];
+            memcpy(other, first_sets + SET * k, SET);
+            other[k / 8 % SET] ^= (uint8_t)(1u << k % 8);
+            if (compare[way](first_sets + SET * k, SET, equal_sets + SET * k, SET) != 256
+                || compare[way](first_sets + SET * k, SET, other, SET) != 0)
+                fail("sets are compared otherwise");
+        }
+}
+
+static void print_sets(void)
+{
+    fill_sets();
+    sets_alike();
+    printf("Leaf sets, %d pairs: ours over plain C by words of 64 bits; over ours a call that does nothing, and\n"
+           "plain C that goes byte by byte, kept to one byte after the other, and as gcc -O2 makes it:\n\n", PAIRS);
+    printf("| call | ours / words | idle call / ours | one byte after the other / ours | bytes by gcc -O2 / ours |\n");
+    printf("|---|---|---|---|---|\n");
+    for (size_t c = 0; c < SET_CALLS; c++) {
+        void (*const *ways)(void) = set_calls[c].ways;
+        printf("| %s | %.2f | %.2f | %.2f | %.2f |\n", set_calls[c].name, ratio(ways[OURS], ways[WORDS], 40),
+               ratio(set_calls[c].idle, ways[OURS], 40), ratio(ways[SINGLE], ways[OURS], 40),
+               ratio(ways[BYTES], ways[OURS], 40));
+        fflush(stdout);
+    }
+    printf("\n");
+}
+
 /* Each call's median time at every leaf count over that at the smallest, of random trees. */
 static void growth(double grown[CALLS][COUNTS])
 {
@@ -785,6 +899,7 @@ int main(int argc, char **argv)
     print_against("Ours over the floor, its buffers read and written once:", 1);
     print_rebuilds();
     print_guesses();
+    print_sets();
     print_texts();
     growth(grown);
     printf("Ours at 128 leaves over ours at 32, where n * n gives 16 and n * n * n gives 64:");

@@ -62,18 +62,38 @@ uint64_t plain_restandardise(size_t n, uint32_t origin, const uint16_t *listing,
     return (uint64_t)(origin < ORIGINS ? origin : LISTED) << 8;
 }
 
+/* Writes the sets of the inner nodes under v, and of v, in post-order; where the next one goes is returned. */
+static uint8_t *emit_sets(size_t n, const children *c, const uint64_t (*sets)[2], size_t v, uint8_t *out)
+{
+    if (v < n)
+        return out;
+    out = emit_sets(n, c, sets, c->first[v - n], out);
+    out = emit_sets(n, c, sets, c->second[v - n], out);
+    memcpy(out, sets[v], sizeof sets[v]);
+    return out + sizeof sets[v];
+}
+
 void plain_splits(size_t n, const uint16_t *listing, uint8_t *out)
 {
-    uint16_t rows[2 * MOST];
-    uint8_t sets[NUMBERS][16];
-    plain_standardise(n, listing, rows);
-    memset(sets, 0, sizeof sets);
-    for (size_t i = 0; i < n; i++)
-        sets[i][i / 8] = (uint8_t)(1u << (i % 8));
-    for (size_t k = 0; k < n - 2; k++)
-        for (size_t b = 0; b < 16; b++)
-            sets[n + k][b] = sets[rows[2 * k]][b] | sets[rows[2 * k + 1]][b];
-    memcpy(out, sets[n], 16 * (n - 3));
+    children c;
+    uint16_t least[NUMBERS];
+    uint64_t sets[NUMBERS][2]; /* a word's low byte comes first */
+    for (size_t i = 0; i < n; i++) {
+        least[i] = (uint16_t)i;
+        sets[i][0] = i < 64 ? (uint64_t)1 << i : 0;
+        sets[i][1] = i < 64 ? 0 : (uint64_t)1 << (i - 64);
+    }
+    for (size_t k = 0; k < n - 2; k++) {
+        uint16_t a = listing[2 * k], b = listing[2 * k + 1];
+        int swap = least[b] < least[a];
+        c.first[k] = swap ? b : a;
+        c.second[k] = swap ? a : b;
+        least[n + k] = least[swap ? b : a];
+        sets[n + k][0] = sets[a][0] | sets[b][0];
+        sets[n + k][1] = sets[a][1] | sets[b][1];
+    }
+    out = emit_sets(n, &c, (const uint64_t (*)[2])sets, c.first[n - 3], out);
+    emit_sets(n, &c, (const uint64_t (*)[2])sets, c.second[n - 3], out);
 }
 
 int plain_pairing(size_t n, const uint16_t *listing, const uint16_t question[4])

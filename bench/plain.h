@@ -35,7 +35,15 @@ uint64_t plain_graft(size_t n, const uint16_t *listing, const uint32_t *table, s
                      uint32_t *out_table);
 uint64_t plain_prune(size_t n, const uint16_t *listing, const uint32_t *table, size_t leaf, uint16_t *out,
                      uint32_t *out_table);
-/* The splits, sixteen bytes each. */
+/* Two leaf sets joined, intersected and compared: 2 and 3 judged, and the reply as the part's. By words of 64 bits
+   (plain_sets.c); by a loop over the bytes (plain_bytes.c), as gcc -O2 makes it; and by the same loop, kept to one byte
+   after the other. The idle ones do nothing: what they take is the call's own time. */
+typedef uint64_t set_maker(const uint8_t *a, size_t a_len, const uint8_t *b, size_t b_len, uint8_t *out, size_t room);
+typedef uint64_t set_comparer(const uint8_t *a, size_t a_len, const uint8_t *b, size_t b_len);
+set_maker plain_join, plain_intersect, bytes_join, bytes_intersect, single_join, single_intersect, idle_maker;
+set_comparer plain_equal, bytes_equal, single_equal, idle_comparer;
+/* The splits, sixteen bytes each, joined by words and written in the standard listing's order without that listing: the
+   fastest that was found. */
 void plain_splits(size_t n, const uint16_t *listing, uint8_t *out);
 /* 0, 1 or 2: how the tree pairs the four leaves. */
 int plain_pairing(size_t n, const uint16_t *listing, const uint16_t question[4]);

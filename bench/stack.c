@@ -21,10 +21,11 @@ static uint32_t fewer_table[FEWER * FEWER];
 static int64_t gaps[N * N];
 static uint8_t sets[QUARTREE_SPLIT_BYTES(N)], bytes[QUARTREE_LISTING_BYTES(N)], sheet[QUARTREE_SHEET_MOST_BYTES + 1];
 static uint8_t text[QUARTREE_TEXT_BYTES(N)], text_out[QUARTREE_TEXT_BYTES(N)];
+static uint8_t first_set[QUARTREE_SET_BYTES], second_set[QUARTREE_SET_BYTES], set_out[QUARTREE_SET_BYTES];
 static struct quartree_record records[QUARTREE_POLL_RECORDS(POLL)];
 static uint16_t comb[QUARTREE_LISTING_NUMBERS(POLL)], comb_merges[QUARTREE_MERGE_NUMBERS(POLL)];
 static size_t leaves, poll_leaves, fewer_leaves, numbers, cells, fewer_numbers, fewer_cells, room, sheet_len, names_len;
-static size_t text_len, leaf, edge;
+static size_t text_len, set_len, leaf, edge;
 static uint64_t reply;
 
 /* ---- The calls --------------------------------------------------------------------------------------------------- */
@@ -44,6 +45,15 @@ static void restandardise(void)
                                    of(QUARTREE_LISTING_NUMBERS(N)));
 }
 static void splits(void) { reply = quartree_splits(leaves, listing, numbers, sets, of(sizeof sets)); }
+static void set_join(void)
+{
+    reply = quartree_set_join(first_set, set_len, second_set, set_len, set_out, of(sizeof set_out));
+}
+static void set_intersect(void)
+{
+    reply = quartree_set_intersect(first_set, set_len, second_set, set_len, set_out, of(sizeof set_out));
+}
+static void set_equal(void) { reply = quartree_set_equal(first_set, set_len, second_set, set_len); }
 static void pairing(void) { reply = quartree_pairing(leaves, listing, numbers, question, 4); }
 static void write_table(void) { reply = quartree_table(leaves, listing, numbers, table_out, of(N * N)); }
 static void gap(void)
@@ -118,7 +128,8 @@ static const struct {
     int guesses; /* it has a limit of its own */
 } calls[] = {
     {"check", check, 0}, {"standardise", standardise, 0}, {"restandardise", restandardise, 0}, {"splits", splits, 0},
-    {"pairing", pairing, 0}, {"table", write_table, 0}, {"gap", gap, 0}, {"rebuild", rebuild, 0},
+    {"pairing", pairing, 0}, {"set_join", set_join, 0}, {"set_intersect", set_intersect, 0},
+    {"set_equal", set_equal, 0}, {"table", write_table, 0}, {"gap", gap, 0}, {"rebuild", rebuild, 0},
     {"rebuild_guided", guided, 0}, {"guess", guess, 1}, {"graft", graft, 0}, {"prune", prune, 0},
     {"prune of leaf 0", prune_first, 0}, {"poll", poll, 0}, {"gap of a poll", gap_of_poll, 0},
     {"rebuild of a poll", rebuild_of_poll, 0}, {"rebuild_guided of a poll", guided_of_poll, 0},
@@ -241,6 +252,9 @@ static void fill(int shape, size_t turned)
     fill_tree(shape, turned, FEWER, fewer_listing, merges, fewer_table);
     fill_tree(shape, turned, N, listing, merges, own_table);
     memcpy(table, own_table, sizeof table);
+    memset(first_set, 0x55, sizeof first_set);
+    memset(second_set, turned == 1 ? 0x55 : 0x33, sizeof second_set);
+    set_len = QUARTREE_SET_BYTES;
     for (uint16_t i = 0; i < 4; i++)
         question[i] = (uint16_t)(i * (N - 1) / 3);
     fill_sheet();
@@ -276,6 +290,7 @@ static void input_short(void)
     cells--;
     fewer_numbers--;
     fewer_cells--;
+    set_len--;
 }
 static void room_short(void) { room = 1; }
 static void diagonal_filled(void) { table[N * N - 1] = fewer_table[FEWER * FEWER - 1] = 1; }

@@ -1,4 +1,5 @@
-/* draw.c: listings, lists of merges, tables, questions, polls, sheets and texts, drawn from the fuzzer's bytes. */
+/* draw.c: listings, lists of merges, tables, questions, polls, sheets, texts and leaf sets, drawn from the fuzzer's
+   bytes. */
 
 #include "draw.h"
 #include <string.h>
@@ -961,4 +962,59 @@ size_t draw_text(struct source *source, const uint8_t *sheet, size_t sheet_len, 
     for (unsigned left = draw_damages(source); left > 0 && pen.len > 0; left--)
         pen.len = damage_bytes(source, text, pen.len);
     return pen.len;
+}
+
+/* ---- Leaf sets --------------------------------------------------------------------------------------------------- */
+
+/* Puts a leaf in or takes it out. */
+static void turn_leaf(uint8_t *set, size_t leaf)
+{
+    set[leaf / 8] ^= (uint8_t)(1 << leaf % 8);
+}
+
+void draw_set(struct source *source, uint8_t *set)
+{
+    uint8_t kind = take(source);
+    for (size_t byte = 0; byte < QUARTREE_SET_BYTES; byte++)
+        set[byte] = kind < 160 ? take(source) : kind < 208 ? 0 : 0xFF;
+    if (kind >= 160 && kind % 4 > 0)
+        turn_leaf(set, below(source, 8 * QUARTREE_SET_BYTES));
+}
+
+void draw_other_set(struct source *source, const uint8_t *set, uint8_t *other)
+{
+    size_t kind = below(source, 8), leaf;
+    draw_set(source, other);
+    leaf = below(source, 8 * QUARTREE_SET_BYTES);
+    for (size_t byte = 0; byte < QUARTREE_SET_BYTES; byte++)
+        switch (kind) {
+        case 0: /* the same */
+        case 1: /* one leaf more or fewer */
+            other[byte] = set[byte];
+            break;
+        case 2: /* a part of it */
+            other[byte] &= set[byte];
+            break;
+        case 3: /* all of it and more */
+            other[byte] |= set[byte];
+            break;
+        case 4: /* other leaves alone */
+            other[byte] &= (uint8_t)~set[byte];
+            break;
+        case 5: /* the same bytes, from another on */
+            other[byte] = set[(byte + leaf) % QUARTREE_SET_BYTES];
+            break;
+        default: /* any other */
+            break;
+        }
+    if (kind == 1)
+        turn_leaf(other, leaf);
+}
+
+size_t damage_set(struct source *source, uint8_t *set)
+{
+    size_t length = draw_length(source, QUARTREE_SET_BYTES);
+    for (size_t byte = QUARTREE_SET_BYTES; byte < length; byte++)
+        set[byte] = take(source);
+    return length;
 }

@@ -18,7 +18,8 @@ enum {
     MOST_CELLS = FITTED_LEAVES * FITTED_LEAVES + SLACK,
     MOST_RECORDS = FITTED_POLL_LEAVES * 33 * 32 * 31 / 24 + SLACK,
     MOST_SHEET_BYTES = 24576,
-    MOST_TEXT_BYTES = 24576
+    MOST_TEXT_BYTES = 24576,
+    MOST_SET_BYTES = QUARTREE_SET_BYTES + SLACK
 };
 
 /* The fuzzer's bytes, taken one after the other. They go on for ever: after the last one come the bytes of a stream
@@ -82,5 +83,11 @@ size_t draw_sheet_for_text(struct source *source, uint8_t *sheet);
 
 /* A text for a sheet of n leaves: all bytes that are left, or a drawing with the sheet's names, damaged or not. */
 size_t draw_text(struct source *source, const uint8_t *sheet, size_t sheet_len, size_t n, uint8_t *text);
+
+/* Two leaf sets: of any leaves, of none or all, or of one or all but one; the second is mostly close to the first. What
+   is damaged is their lengths, which are drawn last. */
+void draw_set(struct source *source, uint8_t *set);
+void draw_other_set(struct source *source, const uint8_t *set, uint8_t *other);
+size_t damage_set(struct source *source, uint8_t *set);
 
 #endif

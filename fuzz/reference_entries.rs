@@ -25,6 +25,8 @@ mod part;
 mod poll;
 #[path = "../reference/src/refuse.rs"]
 mod refuse;
+#[path = "../reference/src/sets.rs"]
+mod sets;
 #[path = "../reference/src/sheet.rs"]
 mod sheet;
 #[path = "../reference/src/table.rs"]

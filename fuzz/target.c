@@ -16,12 +16,14 @@
 
 enum entry {
     CHECK, STANDARDISE, SPLITS, PAIRING, TABLE, GAP, REBUILD, REBUILD_GUIDED, POLL, SHEET_TABLE, SHEET_NAME,
-    REBUILD_SHEET, CHECK_SHEET, EXPORT, IMPORT, RESTANDARDISE, GUESS, GRAFT, PRUNE, ENTRIES
+    REBUILD_SHEET, CHECK_SHEET, EXPORT, IMPORT, RESTANDARDISE, GUESS, GRAFT, PRUNE, SET_JOIN, SET_INTERSECT, SET_EQUAL,
+    ENTRIES
 };
 
 static const char *const entry_name[ENTRIES] = {
     "check", "standardise", "splits", "pairing", "table", "gap", "rebuild", "rebuild_guided", "poll", "sheet_table",
-    "sheet_name", "rebuild_sheet", "check_sheet", "export", "import", "restandardise", "guess", "graft", "prune"
+    "sheet_name", "rebuild_sheet", "check_sheet", "export", "import", "restandardise", "guess", "graft", "prune",
+    "set_join", "set_intersect", "set_equal"
 };
 
 /* The reference's entries take what the archive's take. */
@@ -44,10 +46,13 @@ extern __typeof__(quartree_restandardise) reference_restandardise;
 extern __typeof__(quartree_guess) reference_guess;
 extern __typeof__(quartree_graft) reference_graft;
 extern __typeof__(quartree_prune) reference_prune;
+extern __typeof__(quartree_set_join) reference_set_join;
+extern __typeof__(quartree_set_intersect) reference_set_intersect;
+extern __typeof__(quartree_set_equal) reference_set_equal;
 
 /* A call: the numbers it is given, and the buffers it is lent, inputs in the order of its arguments and then the
    outputs; but the text of an import, which may be all bytes that are left, is the last. Of a sheet, n is what its
-   trailer says and is not an argument. */
+   trailer says and is not an argument; of leaf sets it is 0. */
 struct call {
     enum entry entry;
     uint32_t word;   /* for a table */
@@ -246,10 +251,26 @@ static void read_text_call(struct source *source, struct call *call)
     }
 }
 
+/* set_join, set_intersect, set_equal */
+static void read_set_call(struct source *source, struct call *call)
+{
+    static uint8_t set[MOST_SET_BYTES], other[MOST_SET_BYTES];
+    size_t len;
+    draw_set(source, set);
+    draw_other_set(source, set, other);
+    len = damage_set(source, set);
+    lend_next(call, "first set", set, 1, len);
+    len = damage_set(source, other);
+    lend_next(call, "second set", other, 1, len);
+    if (call->entry != SET_EQUAL)
+        lend_output(source, call, 1, QUARTREE_SET_BYTES);
+}
+
 static void read_call(struct source *source, struct call *call)
 {
     call->entry = (enum entry)below(source, ENTRIES);
     call->buffers = 0;
+    call->n = 0;
     call->named = 0;
     call->word = QUARTREE_COUNTS;
     call->origin = QUARTREE_REBUILT;
@@ -278,6 +299,11 @@ static void read_call(struct source *source, struct call *call)
     case EXPORT:
     case IMPORT:
         read_text_call(source, call);
+        break;
+    case SET_JOIN:
+    case SET_INTERSECT:
+    case SET_EQUAL:
+        read_set_call(source, call);
         break;
     default:
         read_listing_call(source, call);
@@ -331,6 +357,12 @@ static uint64_t make_call(const struct call *call, enum taker taker)
         return ASK(graft, call->n, LENT(0), LENT(1), call->named, LENT(2), LENT(3));
     case PRUNE:
         return ASK(prune, call->n, LENT(0), LENT(1), call->named, LENT(2), LENT(3));
+    case SET_JOIN:
+        return ASK(set_join, LENT(0), LENT(1), LENT(2));
+    case SET_INTERSECT:
+        return ASK(set_intersect, LENT(0), LENT(1), LENT(2));
+    case SET_EQUAL:
+        return ASK(set_equal, LENT(0), LENT(1));
     default:
         return ASK(check_sheet, LENT(0));
     }

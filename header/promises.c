@@ -3,10 +3,11 @@
 
    Each call is accepted at its least leaf count, at 5 and at its most, with lengths that the macros say; a call that
    takes a table with one of counts and with a poll's, and the guess besides with tables that no tree has; a graft and a
-   prune besides at every edge and leaf of trees by chance. At 5 leaves it is refused in every way that its comment
-   names: by one fault alone, and by that fault with all that are judged after it. An accepted call has to write its
-   result and nothing else; a refused one nothing. The tree is a comb: at 5 leaves that of the scope's sheet and text.
-   It is C and C++. The first claim that fails is printed and ends the program. */
+   prune besides at every edge and leaf of trees by chance; a call that takes leaf sets besides with every two bits, and
+   with the splits of trees by chance. At 5 leaves it is refused in every way that its comment names: by one fault
+   alone, and by that fault with all that are judged after it. An accepted call has to write its result and nothing
+   else; a refused one nothing. The tree is a comb: at 5 leaves that of the scope's sheet and text. It is C and C++. The
+   first claim that fails is printed and ends the program. */
 #include "quartree.h"
 #include "quartree.h"
 #include <stdio.h>
@@ -71,9 +72,9 @@ HOLDS(figures_of_reply, QUARTREE_FIGURE_X(0x12345678905) == 0x1234567 && QUARTRE
 
 /* Words of each number's text that no other text has. */
 static const char *const words[] = {
-    "accepted", "leaf count is outside", "input", "output", "diagonal", "mirror", "no binary tree", "earlier row",
-    "named before", "question", "record", "pairing code", "proposal", "51 54", "n(n-1) + 8", "a bad length",
-    "equals an earlier one", "grammar", "three-way top", "each once", "not its own"
+    "accepted", "leaf count is outside", "(a leaf set: 16 bytes)", "output", "diagonal", "mirror", "no binary tree",
+    "earlier row", "named before", "question", "record", "pairing code", "proposal", "51 54", "n(n-1) + 8",
+    "a bad length", "equals an earlier one", "grammar", "three-way top", "each once", "not its own"
 };
 
 enum { REFUSALS = 20 };
@@ -90,6 +91,7 @@ struct lent {
     uint32_t table[QUARTREE_TABLE_CELLS(128) + 1];
     struct quartree_record records[QUARTREE_POLL_RECORDS(32) + 1];
     uint8_t sheet[QUARTREE_SHEET_MOST_BYTES + 1], text[QUARTREE_TEXT_BYTES(128) + 1];
+    uint8_t a[QUARTREE_SET_BYTES + 1], b[QUARTREE_SET_BYTES + 1];
     union {
         uint8_t bytes[QUARTREE_TEXT_BYTES(128) + 1];
         uint16_t numbers[QUARTREE_LISTING_NUMBERS(128) + 1];
@@ -104,14 +106,15 @@ static struct lent lent, before;
 /* The numbers that go with them: leaf count, word for the table, a record's origin, lengths, room, and the leaf that is
    asked for or pruned and the edge that is grafted on. */
 static uint32_t word, origin;
-static size_t n, listing_len, question_len, cells, merges_len, count, sheet_len, text_len, room, table_room, leaf, edge;
+static size_t n, listing_len, question_len, cells, merges_len, count, sheet_len, text_len, a_len, b_len;
+static size_t room, table_room, leaf, edge;
 
 /* The results that are due. No gap is left between a tree and its own table. A graft and a prune have a tree and a
    table due of one leaf more or less. */
 static uint16_t standard[QUARTREE_LISTING_NUMBERS(128)], changed[QUARTREE_LISTING_NUMBERS(128)];
 static uint32_t changed_table[QUARTREE_TABLE_CELLS(128)];
 static uint8_t splits[QUARTREE_SPLIT_BYTES(128)], listing_bytes_due[QUARTREE_LISTING_BYTES(128)];
-static uint8_t text[QUARTREE_TEXT_BYTES(128)];
+static uint8_t text[QUARTREE_TEXT_BYTES(128)], joined[QUARTREE_SET_BYTES], common[QUARTREE_SET_BYTES];
 static uint32_t table[QUARTREE_TABLE_CELLS(128)], sixths[QUARTREE_TABLE_CELLS(128)];
 static const int64_t gaps[QUARTREE_TABLE_CELLS(128)] = {0};
 
@@ -131,6 +134,10 @@ static void put(uint8_t *at, size_t bytes, size_t number)
     for (size_t byte = 0; byte < bytes; byte++)
         at[byte] = (uint8_t)(number >> (8 * byte));
 }
+
+/* Leaf k of a set. */
+static int has_leaf(const uint8_t *set, size_t k) { return set[k / 8] >> k % 8 & 1; }
+static void add_leaf(uint8_t *set, size_t k) { set[k / 8] |= (uint8_t)(1u << k % 8); }
 
 /* The comb in which leaves 0, 1, 2 and so on leave one after the other. Its quartet a < b < c < d pairs a with b, so
    cell (i,j) counts the pairs of leaves below i and those of leaves above j. */
@@ -155,7 +162,7 @@ static void fill_tree(size_t leaves)
         lent.listing[2 * row] = standard[2 * row + 1];
         lent.listing[2 * row + 1] = standard[2 * row];
         for (size_t k = standard[2 * row]; row + 1 < leaves - 2 && k < leaves; k++)
-            splits[QUARTREE_SET_BYTES * row + k / 8] |= (uint8_t)(1u << k % 8);
+            add_leaf(splits + QUARTREE_SET_BYTES * row, k);
     }
     for (size_t place = 0; place < QUARTREE_LISTING_NUMBERS(leaves); place++)
         put(listing_bytes_due + 2 * place, 2, standard[place]);
@@ -223,11 +230,41 @@ static void fill_text(size_t leaves)
     memcpy(lent.text, text, text_len);
 }
 
+enum { SET_BITS = 8 * QUARTREE_SET_BYTES };
+
+/* The leaves that are in either of two sets, and those that are in both. */
+static void fill_due(const uint8_t *a, const uint8_t *b, uint8_t *either, uint8_t *both)
+{
+    memset(either, 0, QUARTREE_SET_BYTES);
+    memset(both, 0, QUARTREE_SET_BYTES);
+    for (size_t k = 0; k < SET_BITS; k++) {
+        if (has_leaf(a, k) || has_leaf(b, k))
+            add_leaf(either, k);
+        if (has_leaf(a, k) && has_leaf(b, k))
+            add_leaf(both, k);
+    }
+}
+
+/* Every second leaf, and every third; of the bits that are no leaves every third, and every second. */
+static void fill_sets(size_t leaves)
+{
+    memset(lent.a, 0, QUARTREE_SET_BYTES);
+    memset(lent.b, 0, QUARTREE_SET_BYTES);
+    for (size_t k = 0; k < SET_BITS; k++) {
+        if (k % (k < leaves ? 2 : 3) == 0)
+            add_leaf(lent.a, k);
+        if (k % (k < leaves ? 3 : 2) == 0)
+            add_leaf(lent.b, k);
+    }
+    fill_due(lent.a, lent.b, joined, common);
+}
+
 /* Everything anew, for so many leaves, with nothing wrong; the outputs hold something. */
 static void fill(size_t leaves)
 {
     memset(&lent, 0xA5, sizeof lent);
     fill_tree(leaves);
+    fill_sets(leaves);
     if (leaves <= QUARTREE_POLL_MOST_LEAVES)
         fill_poll(leaves);
     fill_sheet(leaves);
@@ -242,6 +279,7 @@ static void fill(size_t leaves)
     cells = QUARTREE_TABLE_CELLS(leaves);
     merges_len = QUARTREE_MERGE_NUMBERS(leaves);
     count = QUARTREE_POLL_RECORDS(leaves);
+    a_len = b_len = QUARTREE_SET_BYTES;
     leaf = edge = leaves - 1;
     origin = 4;
 }
@@ -262,6 +300,12 @@ static uint64_t pairing(void)
 {
     return quartree_pairing(n, lent.listing, listing_len, lent.question, question_len);
 }
+static uint64_t set_join(void) { return quartree_set_join(lent.a, a_len, lent.b, b_len, lent.out.bytes, room); }
+static uint64_t set_intersect(void)
+{
+    return quartree_set_intersect(lent.a, a_len, lent.b, b_len, lent.out.bytes, room);
+}
+static uint64_t set_equal(void) { return quartree_set_equal(lent.a, a_len, lent.b, b_len); }
 static uint64_t write_table(void) { return quartree_table(n, lent.listing, listing_len, lent.out.cells, room); }
 static uint64_t gap(void)
 {
@@ -306,6 +350,7 @@ static size_t of_listing(size_t leaves) { return QUARTREE_LISTING_NUMBERS(leaves
 static size_t of_grafted(size_t leaves) { return QUARTREE_LISTING_NUMBERS(leaves + 1); }
 static size_t of_pruned(size_t leaves) { return QUARTREE_LISTING_NUMBERS(leaves - 1); }
 static size_t of_splits(size_t leaves) { return QUARTREE_SPLIT_BYTES(leaves); }
+static size_t of_set(size_t leaves) { return QUARTREE_SET_BYTES + 0 * leaves; }
 static size_t of_table(size_t leaves) { return QUARTREE_TABLE_CELLS(leaves); }
 static size_t of_bytes(size_t leaves) { return QUARTREE_LISTING_BYTES(leaves); }
 static size_t of_text(size_t leaves) { return leaves * lent.sheet[0] + 3 * leaves - 4; }
@@ -313,6 +358,7 @@ static size_t of_text(size_t leaves) { return leaves * lent.sheet[0] + 3 * leave
 /* The figure of an accepted call. Of the question's leaves 0, n-1, 1, n-2 the first is paired with the third. */
 static uint64_t nothing(void) { return 0; }
 static uint64_t third(void) { return 1; }
+static uint64_t equal(void) { return 1; }
 static uint64_t rebuilt(void) { return 0; }
 static uint64_t imported(void) { return 2; }
 static uint64_t grafted(void) { return 4; }
@@ -334,7 +380,7 @@ static uint64_t place_of_last_name(void)
 enum {
     COUNT = 1, POLL_COUNT = 2, LISTING = 4, QUESTION = 8, TABLE = 16, MERGES = 32, RECORDS = 64, SHEET = 128,
     LEAF = 256, OUTPUT = 512, TEXT = 1024, POLL_TABLE = 2048, ZEROS = 4096, EDGE = 8192, PRUNED = 16384,
-    CHANGE = EDGE | PRUNED
+    CHANGE = EDGE | PRUNED, SETS = 32768, SAME = 65536
 };
 
 struct entry {
@@ -356,6 +402,10 @@ static const struct entry entries[] = {
      2},
     {"splits", list_splits, COUNT | LISTING | OUTPUT, 3, 128, {1, 2, 3, 7, 8}, nothing, of_splits, splits, 1},
     {"pairing", pairing, COUNT | LISTING | QUESTION, 4, 128, {1, 2, 7, 8, 9}, third, no_cells, standard, 1},
+    {"set_join", set_join, SETS | OUTPUT, 3, 128, {2, 3}, nothing, of_set, joined, 1},
+    {"set_intersect", set_intersect, SETS | OUTPUT, 3, 128, {2, 3}, nothing, of_set, common, 1},
+    {"set_equal", set_equal, SETS, 3, 128, {2}, nothing, no_cells, standard, 1},
+    {"set_equal of equal sets", set_equal, SETS | SAME, 3, 128, {2}, equal, no_cells, standard, 1},
     {"table", write_table, COUNT | LISTING | OUTPUT, 3, 128, {1, 2, 3, 7, 8}, nothing, of_table, table, 4},
     {"gap", gap, COUNT | LISTING | TABLE | OUTPUT, 3, 128, {1, 2, 3, 7, 8, 4, 5}, nothing, of_table, gaps, 8},
     {"rebuild", rebuild, COUNT | TABLE | OUTPUT, 3, 128, {1, 2, 3, 4, 5, 6}, rebuilt, of_listing, standard, 2},
@@ -411,6 +461,10 @@ static void merges_longer(void) { merges_len++; }
 static void merges_shorter(void) { merges_len--; }
 static void poll_longer(void) { count++; }
 static void poll_shorter(void) { count--; }
+static void a_longer(void) { a_len++; }
+static void a_shorter(void) { a_len--; }
+static void b_longer(void) { b_len++; }
+static void b_shorter(void) { b_len--; }
 static void room_shorter(void) { room--; }
 static void table_room_shorter(void) { table_room--; }
 static void diagonal_filled(void) { lent.table[5 * 3 + 3] = 1; }
@@ -520,6 +574,10 @@ static const struct fault faults[] = {
     {QUARTREE_REFUSED_INPUT_LENGTH, 2, 0, MERGES, merges_shorter, 0},
     {QUARTREE_REFUSED_INPUT_LENGTH, 2, 0, RECORDS, poll_longer, 0},
     {QUARTREE_REFUSED_INPUT_LENGTH, 2, 0, RECORDS, poll_shorter, 0},
+    {QUARTREE_REFUSED_INPUT_LENGTH, 2, 0, SETS, a_longer, 0},
+    {QUARTREE_REFUSED_INPUT_LENGTH, 2, 0, SETS, a_shorter, 0},
+    {QUARTREE_REFUSED_INPUT_LENGTH, 2, 0, SETS, b_longer, 0},
+    {QUARTREE_REFUSED_INPUT_LENGTH, 2, 0, SETS, b_shorter, 0},
     {QUARTREE_REFUSED_OUTPUT_ROOM, 3, 0, OUTPUT, room_shorter, 0},
     {QUARTREE_REFUSED_OUTPUT_ROOM, 3, 0, CHANGE, table_room_shorter, 0},
     {QUARTREE_REFUSED_DIAGONAL, 4, 3, TABLE, diagonal_filled, 0},
@@ -604,6 +662,8 @@ static void fill_for(const struct entry *entry, size_t leaves)
         table_of_poll();
     if ((entry->takes & ZEROS) != 0)
         table_of_zeros();
+    if ((entry->takes & SAME) != 0)
+        memcpy(lent.b, lent.a, QUARTREE_SET_BYTES);
     if ((entry->takes & CHANGE) != 0) {
         comb(leaves_left(entry, leaves), changed, changed_table);
         table_room = QUARTREE_TABLE_CELLS(leaves_left(entry, leaves));
@@ -998,7 +1058,7 @@ static void keeps_pairings(const struct tree *tree, const struct tree *to, size_
 static void set_under(const struct tree *tree, size_t number, uint8_t *set)
 {
     if (number < tree->leaves) {
-        set[number / 8] |= (uint8_t)(1u << number % 8);
+        add_leaf(set, number);
         return;
     }
     set_under(tree, tree->rows[2 * (number - tree->leaves)], set);
@@ -1110,6 +1170,153 @@ static void try_changes(void)
         }
     try_chain();
     try_guessed();
+}
+
+/* ---- Leaf sets --------------------------------------------------------------------------------------------------- */
+
+enum { FILLED = 0xA5, WIDE = 65536 + QUARTREE_SET_BYTES };
+
+/* The calls, of exactly these types. */
+static const struct {
+    const char *name;
+    uint64_t (*call)(const uint8_t *, size_t, const uint8_t *, size_t, uint8_t *, size_t);
+} makes_set[] = {{"set_join", quartree_set_join}, {"set_intersect", quartree_set_intersect}};
+static uint64_t (*const compare)(const uint8_t *, size_t, const uint8_t *, size_t) = quartree_set_equal;
+
+static int same_set(const uint8_t *a, const uint8_t *b)
+{
+    uint64_t reply = compare(a, QUARTREE_SET_BYTES, b, QUARTREE_SET_BYTES);
+    claim(reply == 0 || reply == 256, "set_equal", "has another reply", 0);
+    return reply != 0;
+}
+
+/* The calls with two sets: what is written is due bit by bit, at every address in turns, and nothing beside it is
+   written; and the sets are equal where their bytes are. */
+static void try_pair(const uint8_t *a, const uint8_t *b)
+{
+    static size_t at;
+    uint8_t due[2][QUARTREE_SET_BYTES], out[3 * QUARTREE_SET_BYTES], all[sizeof out];
+    fill_due(a, b, due[0], due[1]);
+    for (size_t m = 0; m < 2; m++) {
+        at = (at + 1) % QUARTREE_SET_BYTES;
+        memset(out, FILLED, sizeof out);
+        memset(all, FILLED, sizeof all);
+        memcpy(all + at, due[m], QUARTREE_SET_BYTES);
+        claim(makes_set[m].call(a, QUARTREE_SET_BYTES, b, QUARTREE_SET_BYTES, out + at, sizeof out - at)
+                  == QUARTREE_ACCEPTED,
+              makes_set[m].name, "is refused", 0);
+        claim(memcmp(out, all, sizeof out) == 0, makes_set[m].name, "writes something else", 0);
+    }
+    claim(same_set(a, b) == (memcmp(a, b, QUARTREE_SET_BYTES) == 0), "set_equal", "has another figure", 0);
+}
+
+/* Takes a leaf from a set, or adds it. */
+static void turn_leaf(uint8_t *set, size_t k) { set[k / 8] ^= (uint8_t)(1u << k % 8); }
+
+/* Every two sets of one bit, and every two that lack one; sets beside themselves with one bit turned, in either order;
+   and sets by chance at every address, overlapping and one and the same among them. */
+static void try_pairs(void)
+{
+    uint8_t a[QUARTREE_SET_BYTES], b[QUARTREE_SET_BYTES], bytes[4 * QUARTREE_SET_BYTES];
+    for (int byte = 0; byte <= 0xFF; byte += 0xFF) {
+        memset(a, byte, sizeof a);
+        memset(b, byte, sizeof b);
+        for (size_t i = 0; i < SET_BITS; i++) {
+            turn_leaf(a, i);
+            try_pair(a, b);
+            try_pair(b, a);
+            for (size_t j = 0; j < SET_BITS; j++) {
+                turn_leaf(b, j);
+                try_pair(a, b);
+                turn_leaf(b, j);
+            }
+            turn_leaf(a, i);
+        }
+    }
+    for (size_t k = 0; k < sizeof bytes; k++)
+        bytes[k] = (uint8_t)any_number();
+    for (size_t i = 0; i <= sizeof bytes - sizeof a; i++) {
+        memcpy(a, bytes + i, sizeof a);
+        try_pair(a, bytes + i);
+        for (size_t k = 0; k < SET_BITS; k++) {
+            turn_leaf(a, k);
+            try_pair(a, bytes + i);
+            try_pair(bytes + i, a);
+            turn_leaf(a, k);
+        }
+        for (size_t j = 0; j <= sizeof bytes - sizeof b; j++)
+            try_pair(bytes + i, bytes + j);
+    }
+}
+
+/* Inputs of other lengths and every room, and what is left then in a wide output. */
+static void try_lengths(void)
+{
+    static const size_t sizes[] = {0, 1, 8, 15, 16, 17, 24, 32, 128, 256, 256 + 16, 65536, 65536 + 16};
+    enum { SIZES = sizeof sizes / sizeof *sizes };
+    static uint8_t a[WIDE], b[WIDE], out[WIDE], due[WIDE];
+    memset(a, 0x0F, sizeof a);
+    memset(b, 0x33, sizeof b);
+    for (size_t s = 0; s < SIZES * SIZES * SIZES; s++) {
+        size_t first = sizes[s % SIZES], second = sizes[s / SIZES % SIZES], lent_room = sizes[s / SIZES / SIZES];
+        unsigned number = first != 16 || second != 16 ? 2 : lent_room < 16 ? 3 : 0;
+        claim(compare(a, first, b, second) == (number == 2 ? 2 : 0), "set_equal", "has another reply", number);
+        for (size_t m = 0; m < 2; m++) {
+            memset(out, FILLED, lent_room);
+            memset(due, FILLED, lent_room);
+            if (number == 0)
+                memset(due, m == 0 ? 0x3F : 0x03, 16);
+            claim(makes_set[m].call(a, first, b, second, out, lent_room) == number, makes_set[m].name,
+                  "has another reply", number);
+            claim(memcmp(out, due, lent_room) == 0, makes_set[m].name, "leaves something else", number);
+        }
+    }
+}
+
+/* Of a tree by chance: the sets of a node's children, joined, are its split, and no leaf is in both; different nodes
+   have different splits, and of two splits one is in the other, or no leaf is in both. */
+static void try_tree(size_t leaves)
+{
+    static const uint8_t empty[QUARTREE_SET_BYTES] = {0};
+    static struct tree tree;
+    static uint8_t sets[QUARTREE_EDGES(128) + 1][QUARTREE_SET_BYTES], listed[QUARTREE_SPLIT_BYTES(128)];
+    uint8_t of[2][QUARTREE_SET_BYTES];
+    draw(&tree, leaves);
+    claim(quartree_splits(leaves, tree.rows, QUARTREE_LISTING_NUMBERS(leaves), listed, sizeof listed)
+              == QUARTREE_ACCEPTED,
+          "splits", "refuses a tree", 0);
+    memset(sets, 0, sizeof sets);
+    for (size_t k = 1; k < leaves; k++)
+        add_leaf(sets[k], k);
+    for (size_t row = 0; row < leaves - 3; row++)
+        memcpy(sets[leaves + row], listed + QUARTREE_SET_BYTES * row, QUARTREE_SET_BYTES);
+    for (size_t row = 0; row < leaves - 3; row++) {
+        const uint8_t *first = sets[tree.rows[2 * row]], *second = sets[tree.rows[2 * row + 1]];
+        for (size_t m = 0; m < 2; m++)
+            claim(makes_set[m].call(first, QUARTREE_SET_BYTES, second, QUARTREE_SET_BYTES, of[m], QUARTREE_SET_BYTES)
+                      == QUARTREE_ACCEPTED,
+                  makes_set[m].name, "is refused", 0);
+        claim(same_set(of[0], sets[leaves + row]), "set_join", "makes another split of two children's", 0);
+        claim(same_set(of[1], empty), "set_intersect", "finds a leaf under two children", 0);
+        for (size_t other = 0; other < row; other++) {
+            first = sets[leaves + row];
+            second = sets[leaves + other];
+            try_pair(first, second);
+            claim(!same_set(first, second), "set_equal", "takes two splits for one", 0);
+            quartree_set_intersect(first, QUARTREE_SET_BYTES, second, QUARTREE_SET_BYTES, of[1], QUARTREE_SET_BYTES);
+            claim(same_set(of[1], empty) || same_set(of[1], first) || same_set(of[1], second), "set_intersect",
+                  "has splits of one tree that do not fit together", 0);
+        }
+    }
+}
+
+static void try_sets(void)
+{
+    static const size_t sizes[] = {3, 4, 5, 8, 9, 16, 63, 64, 65, 66, 127, 128};
+    try_pairs();
+    try_lengths();
+    for (size_t s = 0; s < sizeof sizes / sizeof *sizes; s++)
+        try_tree(sizes[s]);
 }
 
 /* What each code adds to the cells (0,1), (0,2), (0,3), (1,2), (1,3) and (2,3) of four leaves; and the total of a poll
@@ -1265,6 +1472,7 @@ int main(void)
     try_rough();
     try_tables();
     try_changes();
+    try_sets();
     try_codes();
     try_origins();
     try_records();

@@ -2,9 +2,10 @@
 
    The part turns a table of quartet counts into the one tree that has it, or refuses; and it goes the other way. Where
    no tree has the table, it guesses one, if it is asked to, and says so. It adds leaves to a tree and takes leaves from
-   it, and keeps its table in step. It writes trees as Newick text, and reads them. Trees have no root and no branch
-   lengths. This header is the manual: the words, the sizes, the reply and the causes of refusal, the origins, what a
-   caller owes, what every call promises, and then the calls.
+   it, and keeps its table in step. It lists a tree's splits, and joins, intersects and compares leaf sets. It writes
+   trees as Newick text, and reads them. Trees have no root and no branch lengths. This header is the manual: the words,
+   the sizes, the reply and the causes of refusal, the origins, what a caller owes, what every call promises, and then
+   the calls.
 
    Link with libquartree.a. Of the C library it takes memcpy, memmove, memset and memcmp at most.
 
@@ -17,12 +18,15 @@
 #include <stddef.h>
 #include <stdint.h>
 
-#define QUARTREE_VERSION "0.7.0"
+#define QUARTREE_VERSION "0.8.0"
 #define QUARTREE_VERSION_MAJOR 0
-#define QUARTREE_VERSION_MINOR 7
+#define QUARTREE_VERSION_MINOR 8
 #define QUARTREE_VERSION_PATCH 0
 
-/* From 0.6 to 0.7: quartree_graft and quartree_prune are new, and so is refusal 20, which they alone give. Nothing else
+/* From 0.7 to 0.8: quartree_set_join, quartree_set_intersect and quartree_set_equal are new, and the text of refusal 2
+   names leaf sets, too. Nothing else changes.
+
+   From 0.6 to 0.7: quartree_graft and quartree_prune are new, and so is refusal 20, which they alone give. Nothing else
    changes.
 
    From 0.5 to 0.6: quartree_guess is new; it takes more stack than the other calls (QUARTREE_GUESS_STACK_BYTES). Where
@@ -52,8 +56,10 @@
    Edge. An edge is named by the node below it in the standard listing, whatever listing is lent: 1 to 2n-3. So a leaf
    1 to n-1 names its own edge, and 2n-3 is the edge between the last node and leaf 0.
 
-   Split. The set of leaves under an inner node other than the last. It is sixteen bytes (QUARTREE_SET_BYTES), one bit
-   a leaf: leaf k is bit k mod 8 of byte k div 8, bit 0 the lowest. The bits from n on are 0.
+   Leaf set. It is sixteen bytes (QUARTREE_SET_BYTES), one bit a leaf: leaf k is bit k mod 8 of byte k div 8, bit 0 the
+   lowest.
+
+   Split. The set of leaves under an inner node other than the last, as a leaf set. Its bits from n on are 0.
 
    Quartet. Four different leaves. The tree pairs i,j against p,q when some edge separates i and j from p and q. Four
    leaves in an order have pairing 0 (first with second), 1 (first with third) or 2 (first with fourth).
@@ -167,7 +173,8 @@ enum quartree_refusal {
     QUARTREE_ACCEPTED = 0,
     QUARTREE_REFUSED_LEAF_COUNT = 1,    /* leaf count outside 3..128 (polls and their tables 4..32), or that of the
                                            grafted or pruned tree outside 3..128 */
-    QUARTREE_REFUSED_INPUT_LENGTH = 2,  /* an input not exactly as long as the leaf count needs */
+    QUARTREE_REFUSED_INPUT_LENGTH = 2,  /* an input not exactly as long as the leaf count needs, or a leaf set that has
+                                           not exactly 16 bytes */
     QUARTREE_REFUSED_OUTPUT_ROOM = 3,   /* an output shorter than its result */
     QUARTREE_REFUSED_DIAGONAL = 4,      /* diagonal cell not 0; the first such leaf */
     QUARTREE_REFUSED_HALVES = 5,        /* cells (i,j) and (j,i) unequal; 256*i + j, the first in row order, i < j */
@@ -203,7 +210,7 @@ static inline const char *quartree_refusal_text(unsigned number)
     case QUARTREE_REFUSED_LEAF_COUNT:
         return "the leaf count is outside 3 to 128 (polls and their tables: 4 to 32), or the new tree's would be";
     case QUARTREE_REFUSED_INPUT_LENGTH:
-        return "an input is not exactly as long as the leaf count needs";
+        return "an input is not exactly as long as the leaf count needs (a leaf set: 16 bytes)";
     case QUARTREE_REFUSED_OUTPUT_ROOM:
         return "an output is shorter than its result";
     case QUARTREE_REFUSED_DIAGONAL:
@@ -359,6 +366,35 @@ uint64_t quartree_splits(size_t n, const uint16_t *listing, size_t len, uint8_t 
    Accepted: the figure is 0, 1 or 2, as the tree pairs the question's first leaf with the second, the third or the
    fourth. There is no output. */
 uint64_t quartree_pairing(size_t n, const uint16_t *listing, size_t len, const uint16_t *question, size_t question_len);
+
+/* ---- Leaf sets ------------------------------------------------------------------------------------------------------
+
+   For the sets that quartree_splits lists, and for any others. The length of a lent set, a_len or b_len, has to be
+   QUARTREE_SET_BYTES. No leaf count goes with a set: all of its bits count, also those at and above a tree's n.
+
+   The calls take a word at a time: leaf k is bit k mod 64 of word k div 64. Each result is the one got byte by byte
+   ('join-by-bytes', 'intersect-by-bytes', 'equal-by-bytes'). Sets are lent as bytes, so neither their address nor the
+   machine's order of bytes matters.
+
+   As with every call, the inputs a and b may be one and the same, and the output may overlap neither: no set is joined
+   or intersected in place. */
+
+/* Joins two sets.
+   Refused, in this order: 2 (either input), 3.
+   Accepted: the first QUARTREE_SET_BYTES bytes of out are the set of the leaves that are in a or in b, or in both. */
+uint64_t quartree_set_join(const uint8_t *a, size_t a_len, const uint8_t *b, size_t b_len, uint8_t *out, size_t room);
+
+/* Intersects two sets.
+   Refused, in this order: 2 (either input), 3.
+   Accepted: the first QUARTREE_SET_BYTES bytes of out are the set of the leaves that are in a and in b. */
+uint64_t quartree_set_intersect(const uint8_t *a, size_t a_len, const uint8_t *b, size_t b_len, uint8_t *out,
+                                size_t room);
+
+/* Says whether two sets are equal.
+   Refused: 2 (either input).
+   Accepted: the figure is 1 where a and b have the same leaves, and so the same bytes, and 0 where they have not. There
+   is no output. */
+uint64_t quartree_set_equal(const uint8_t *a, size_t a_len, const uint8_t *b, size_t b_len);
 
 /* ---- Tables ---------------------------------------------------------------------------------------------------------
 

@@ -1,6 +1,7 @@
 /* Wrong C entries, each around the archive's own, which stands here under the name real_.... FAULT chooses one; the
    comment over it names the wrong program. reference/entry_faults builds them and demands that each is found. */
 #include "quartree.h"
+#include <string.h>
 
 #define NUMBER(reply) QUARTREE_NUMBER(reply)
 
@@ -33,6 +34,15 @@ uint64_t real_import(const uint8_t *sheet, size_t sheet_len, const uint8_t *text
 
 CHANGE(real_graft, edge);
 CHANGE(real_prune, leaf);
+
+/* An entry that makes a set of two, and one that compares two. */
+#define SET_OF_TWO(entry) \
+    uint64_t entry(const uint8_t *a, size_t a_len, const uint8_t *b, size_t b_len, uint8_t *out, size_t room)
+#define SET_TEST(entry) uint64_t entry(const uint8_t *a, size_t a_len, const uint8_t *b, size_t b_len)
+
+SET_OF_TWO(real_set_join);
+SET_OF_TWO(real_set_intersect);
+SET_TEST(real_set_equal);
 
 #if FAULT == 1 /* check: the position counted from 1 */
 uint64_t quartree_check(size_t n, const uint16_t *listing, size_t len)
@@ -924,5 +934,323 @@ CHANGE(quartree_prune, leaf)
         for (size_t j = 0; j < i; j++)
             out_table[(n - 1) * i + j] = 0;
     return reply;
+}
+
+#elif FAULT == 115 /* set_join: leaf 63 lost */
+SET_OF_TWO(quartree_set_join)
+{
+    uint64_t reply = real_set_join(a, a_len, b, b_len, out, room);
+    if (reply == QUARTREE_ACCEPTED)
+        out[7] &= 0x7F;
+    return reply;
+}
+
+#elif FAULT == 116 /* set_join: the second word of the first set alone */
+SET_OF_TWO(quartree_set_join)
+{
+    uint64_t reply = real_set_join(a, a_len, b, b_len, out, room);
+    for (size_t byte = 8; reply == QUARTREE_ACCEPTED && byte < QUARTREE_SET_BYTES; byte++)
+        out[byte] = a[byte];
+    return reply;
+}
+
+#elif FAULT == 117 /* set_join: the words written high byte first */
+SET_OF_TWO(quartree_set_join)
+{
+    uint64_t reply = real_set_join(a, a_len, b, b_len, out, room);
+    for (size_t byte = 0; reply == QUARTREE_ACCEPTED && byte < QUARTREE_SET_BYTES; byte++)
+        out[byte] = a[byte ^ 7] | b[byte ^ 7];
+    return reply;
+}
+
+#elif FAULT == 118 /* set_join: the words exchanged */
+SET_OF_TWO(quartree_set_join)
+{
+    uint64_t reply = real_set_join(a, a_len, b, b_len, out, room);
+    for (size_t byte = 0; reply == QUARTREE_ACCEPTED && byte < QUARTREE_SET_BYTES; byte++)
+        out[byte] = a[byte ^ 8] | b[byte ^ 8];
+    return reply;
+}
+
+#elif FAULT == 119 /* set_join: leaves of both sets left out */
+SET_OF_TWO(quartree_set_join)
+{
+    uint64_t reply = real_set_join(a, a_len, b, b_len, out, room);
+    for (size_t byte = 0; reply == QUARTREE_ACCEPTED && byte < QUARTREE_SET_BYTES; byte++)
+        out[byte] = a[byte] ^ b[byte];
+    return reply;
+}
+
+#elif FAULT == 120 /* set_join: the sets added up as numbers */
+SET_OF_TWO(quartree_set_join)
+{
+    uint64_t reply = real_set_join(a, a_len, b, b_len, out, room);
+    unsigned sum = 0;
+    for (size_t byte = 0; reply == QUARTREE_ACCEPTED && byte < QUARTREE_SET_BYTES; byte++) {
+        sum = a[byte] + b[byte] + sum / 256;
+        out[byte] = (uint8_t)sum;
+    }
+    return reply;
+}
+
+#elif FAULT == 121 /* set_join: the length of the second set unlooked */
+SET_OF_TWO(quartree_set_join)
+{
+    (void)b_len;
+    return real_set_join(a, a_len, b, QUARTREE_SET_BYTES, out, room);
+}
+
+#elif FAULT == 122 /* set_join: the length of the first set in 8 bits */
+SET_OF_TWO(quartree_set_join)
+{
+    return real_set_join(a, (uint8_t)a_len, b, b_len, out, room);
+}
+
+#elif FAULT == 123 /* set_join: the room judged as an input, which has to be exact */
+SET_OF_TWO(quartree_set_join)
+{
+    return real_set_join(a, a_len, b, b_len, out, room > QUARTREE_SET_BYTES ? 0 : room);
+}
+
+#elif FAULT == 124 /* set_join: a room of 15 bytes filled */
+SET_OF_TWO(quartree_set_join)
+{
+    uint8_t set[QUARTREE_SET_BYTES];
+    uint64_t reply = real_set_join(a, a_len, b, b_len, out, room);
+    if (reply != QUARTREE_REFUSED_OUTPUT_ROOM || room != QUARTREE_SET_BYTES - 1)
+        return reply;
+    reply = real_set_join(a, a_len, b, b_len, set, sizeof set);
+    for (size_t byte = 0; byte < room; byte++)
+        out[byte] = set[byte];
+    return reply;
+}
+
+#elif FAULT == 125 /* set_join: a short output before the lengths */
+SET_OF_TWO(quartree_set_join)
+{
+    return room < QUARTREE_SET_BYTES ? QUARTREE_REFUSED_OUTPUT_ROOM : real_set_join(a, a_len, b, b_len, out, room);
+}
+
+#elif FAULT == 126 /* set_join: the byte behind the set cleared */
+SET_OF_TWO(quartree_set_join)
+{
+    uint64_t reply = real_set_join(a, a_len, b, b_len, out, room);
+    if (reply == QUARTREE_ACCEPTED && room > QUARTREE_SET_BYTES)
+        out[QUARTREE_SET_BYTES] = 0;
+    return reply;
+}
+
+#elif FAULT == 127 /* set_join: the first set written before the second is judged */
+SET_OF_TWO(quartree_set_join)
+{
+    for (size_t byte = 0; a_len == QUARTREE_SET_BYTES && room >= a_len && byte < a_len; byte++)
+        out[byte] = a[byte];
+    return real_set_join(a, a_len, b, b_len, out, room);
+}
+
+#elif FAULT == 128 /* set_join: joined in the caller's first set, too */
+SET_OF_TWO(quartree_set_join)
+{
+    uint64_t reply = real_set_join(a, a_len, b, b_len, out, room);
+    uint8_t *lent = (uint8_t *)(uintptr_t)a;
+    for (size_t byte = 0; reply == QUARTREE_ACCEPTED && byte < QUARTREE_SET_BYTES; byte++)
+        lent[byte] |= b[byte];
+    return reply;
+}
+
+#elif FAULT == 129 /* set_join: how many leaves there are told with it */
+SET_OF_TWO(quartree_set_join)
+{
+    uint64_t reply = real_set_join(a, a_len, b, b_len, out, room), leaves = 0;
+    for (size_t byte = 0; reply == QUARTREE_ACCEPTED && byte < QUARTREE_SET_BYTES; byte++)
+        leaves += (uint64_t)__builtin_popcount(out[byte]);
+    return reply | leaves << 8;
+}
+
+#elif FAULT == 130 /* set_intersect: leaf 127 lost */
+SET_OF_TWO(quartree_set_intersect)
+{
+    uint64_t reply = real_set_intersect(a, a_len, b, b_len, out, room);
+    if (reply == QUARTREE_ACCEPTED)
+        out[QUARTREE_SET_BYTES - 1] &= 0x7F;
+    return reply;
+}
+
+#elif FAULT == 131 /* set_intersect: leaf 0 left out, as in a split */
+SET_OF_TWO(quartree_set_intersect)
+{
+    uint64_t reply = real_set_intersect(a, a_len, b, b_len, out, room);
+    if (reply == QUARTREE_ACCEPTED)
+        out[0] &= 0xFE;
+    return reply;
+}
+
+#elif FAULT == 132 /* set_intersect: join in its place */
+SET_OF_TWO(quartree_set_intersect)
+{
+    return real_set_join(a, a_len, b, b_len, out, room);
+}
+
+#elif FAULT == 133 /* set_intersect: the leaves of the first set that the second has not */
+SET_OF_TWO(quartree_set_intersect)
+{
+    uint64_t reply = real_set_intersect(a, a_len, b, b_len, out, room);
+    for (size_t byte = 0; reply == QUARTREE_ACCEPTED && byte < QUARTREE_SET_BYTES; byte++)
+        out[byte] = a[byte] & (uint8_t)~b[byte];
+    return reply;
+}
+
+#elif FAULT == 134 /* set_intersect: the highest bit of a byte first */
+SET_OF_TWO(quartree_set_intersect)
+{
+    uint64_t reply = real_set_intersect(a, a_len, b, b_len, out, room);
+    for (size_t byte = 0; reply == QUARTREE_ACCEPTED && byte < QUARTREE_SET_BYTES; byte++) {
+        uint8_t turned = 0;
+        for (unsigned bit = 0; bit < 8; bit++)
+            turned |= (uint8_t)((out[byte] >> bit & 1) << (7 - bit));
+        out[byte] = turned;
+    }
+    return reply;
+}
+
+#elif FAULT == 135 /* set_intersect: nothing written where the sets have nothing in common */
+SET_OF_TWO(quartree_set_intersect)
+{
+    uint8_t common = 0;
+    for (size_t byte = 0; byte < a_len && byte < b_len; byte++)
+        common |= a[byte] & b[byte];
+    if (a_len == QUARTREE_SET_BYTES && b_len == a_len && room >= a_len && common == 0)
+        return QUARTREE_ACCEPTED;
+    return real_set_intersect(a, a_len, b, b_len, out, room);
+}
+
+#elif FAULT == 136 /* set_intersect: a longer first set taken */
+SET_OF_TWO(quartree_set_intersect)
+{
+    size_t most = a_len < QUARTREE_SET_BYTES ? a_len : QUARTREE_SET_BYTES;
+    return real_set_intersect(a, most, b, b_len, out, room);
+}
+
+#elif FAULT == 137 /* set_intersect: the room in 16 bits */
+SET_OF_TWO(quartree_set_intersect)
+{
+    return real_set_intersect(a, a_len, b, b_len, out, (uint16_t)room);
+}
+
+#elif FAULT == 138 /* set_intersect: a short output told as an input of another length */
+SET_OF_TWO(quartree_set_intersect)
+{
+    uint64_t reply = real_set_intersect(a, a_len, b, b_len, out, room);
+    return reply == QUARTREE_REFUSED_OUTPUT_ROOM ? QUARTREE_REFUSED_INPUT_LENGTH : reply;
+}
+
+#elif FAULT == 139 /* set_equal: turned round */
+SET_TEST(quartree_set_equal)
+{
+    uint64_t reply = real_set_equal(a, a_len, b, b_len);
+    return NUMBER(reply) == QUARTREE_ACCEPTED ? reply ^ 256 : reply;
+}
+
+#elif FAULT == 140 /* set_equal: the answer in the number's place */
+SET_TEST(quartree_set_equal)
+{
+    uint64_t reply = real_set_equal(a, a_len, b, b_len);
+    return NUMBER(reply) == QUARTREE_ACCEPTED ? QUARTREE_FIGURE(reply) : reply;
+}
+
+#elif FAULT == 141 /* set_equal: yes told as all bits */
+SET_TEST(quartree_set_equal)
+{
+    uint64_t reply = real_set_equal(a, a_len, b, b_len);
+    return reply == 256 ? (uint64_t)-1 << 8 : reply;
+}
+
+#elif FAULT == 142 /* set_equal: the first words alone */
+SET_TEST(quartree_set_equal)
+{
+    uint64_t reply = real_set_equal(a, a_len, b, b_len);
+    return NUMBER(reply) == QUARTREE_ACCEPTED && memcmp(a, b, 8) == 0 ? 256 : reply;
+}
+
+#elif FAULT == 143 /* set_equal: the last bytes not compared */
+SET_TEST(quartree_set_equal)
+{
+    uint64_t reply = real_set_equal(a, a_len, b, b_len);
+    return NUMBER(reply) == QUARTREE_ACCEPTED && memcmp(a, b, QUARTREE_SET_BYTES - 1) == 0 ? 256 : reply;
+}
+
+#elif FAULT == 144 /* set_equal: compared as texts, up to a byte of 0 */
+SET_TEST(quartree_set_equal)
+{
+    uint64_t reply = real_set_equal(a, a_len, b, b_len);
+    int same = NUMBER(reply) == QUARTREE_ACCEPTED && strncmp((const char *)a, (const char *)b, a_len) == 0;
+    return same ? 256 : reply;
+}
+
+#elif FAULT == 145 /* set_equal: the numbers of leaves compared */
+SET_TEST(quartree_set_equal)
+{
+    uint64_t reply = real_set_equal(a, a_len, b, b_len);
+    int more = 0;
+    for (size_t byte = 0; NUMBER(reply) == QUARTREE_ACCEPTED && byte < QUARTREE_SET_BYTES; byte++)
+        more += __builtin_popcount(a[byte]) - __builtin_popcount(b[byte]);
+    return NUMBER(reply) == QUARTREE_ACCEPTED ? 256 * (uint64_t)(more == 0) : reply;
+}
+
+#elif FAULT == 146 /* set_equal: a part of the second set taken for it */
+SET_TEST(quartree_set_equal)
+{
+    uint64_t reply = real_set_equal(a, a_len, b, b_len);
+    int more = 0;
+    for (size_t byte = 0; NUMBER(reply) == QUARTREE_ACCEPTED && byte < QUARTREE_SET_BYTES; byte++)
+        more |= a[byte] & ~b[byte];
+    return NUMBER(reply) == QUARTREE_ACCEPTED ? 256 * (uint64_t)(more == 0) : reply;
+}
+
+#elif FAULT == 147 /* set_equal: leaf 64 not compared */
+SET_TEST(quartree_set_equal)
+{
+    uint64_t reply = real_set_equal(a, a_len, b, b_len);
+    int more = 0;
+    for (size_t byte = 0; NUMBER(reply) == QUARTREE_ACCEPTED && byte < QUARTREE_SET_BYTES; byte++)
+        more |= (a[byte] ^ b[byte]) & (byte == 8 ? 0xFE : 0xFF);
+    return NUMBER(reply) == QUARTREE_ACCEPTED ? 256 * (uint64_t)(more == 0) : reply;
+}
+
+#elif FAULT == 148 /* set_equal: empty sets told as unequal */
+SET_TEST(quartree_set_equal)
+{
+    uint64_t reply = real_set_equal(a, a_len, b, b_len);
+    int leaves = 0;
+    for (size_t byte = 0; reply == 256 && byte < QUARTREE_SET_BYTES; byte++)
+        leaves |= a[byte];
+    return leaves == 0 && reply == 256 ? QUARTREE_ACCEPTED : reply;
+}
+
+#elif FAULT == 149 /* set_equal: sets of any length, if both have it */
+SET_TEST(quartree_set_equal)
+{
+    return a_len == b_len ? 256 * (uint64_t)(memcmp(a, b, a_len) == 0) : real_set_equal(a, a_len, b, b_len);
+}
+
+#elif FAULT == 150 /* set_equal: sets of other lengths told as unequal */
+SET_TEST(quartree_set_equal)
+{
+    uint64_t reply = real_set_equal(a, a_len, b, b_len);
+    return reply == QUARTREE_REFUSED_INPUT_LENGTH ? QUARTREE_ACCEPTED : reply;
+}
+
+#elif FAULT == 151 /* set_equal: the lengths in 16 bits */
+SET_TEST(quartree_set_equal)
+{
+    return real_set_equal(a, (uint16_t)a_len, b, (uint16_t)b_len);
+}
+
+#elif FAULT == 152 /* set_equal: which set is refused told with 2 */
+SET_TEST(quartree_set_equal)
+{
+    uint64_t reply = real_set_equal(a, a_len, b, b_len);
+    uint64_t second = a_len == QUARTREE_SET_BYTES;
+    return NUMBER(reply) == QUARTREE_REFUSED_INPUT_LENGTH ? reply | second << 8 : reply;
 }
 #endif

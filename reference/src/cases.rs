@@ -11,6 +11,7 @@ use crate::origin::{self, Origin, TreeRecord};
 use crate::part::{self, Cell, Lent};
 use crate::poll::{self, Record};
 use crate::refuse::{reply, Answer, Refusal};
+use crate::sets;
 use crate::table::{self, COUNTS};
 use crate::tree::{self, Tree};
 use crate::{merge, newick, sheet};
@@ -37,10 +38,13 @@ pub enum Kind {
     Import,
     Graft,
     Prune,
+    SetJoin,
+    SetIntersect,
+    SetEqual,
 }
 
 impl Kind {
-    pub const ALL: [Kind; 19] = [
+    pub const ALL: [Kind; 22] = [
         Kind::Check,
         Kind::Standardise,
         Kind::Restandardise,
@@ -60,6 +64,9 @@ impl Kind {
         Kind::Import,
         Kind::Graft,
         Kind::Prune,
+        Kind::SetJoin,
+        Kind::SetIntersect,
+        Kind::SetEqual,
     ];
 
     pub fn name(self) -> &'static str {
@@ -83,6 +90,9 @@ impl Kind {
             Kind::Import => "import",
             Kind::Graft => "graft",
             Kind::Prune => "prune",
+            Kind::SetJoin => "set_join",
+            Kind::SetIntersect => "set_intersect",
+            Kind::SetEqual => "set_equal",
         }
     }
 
@@ -104,6 +114,8 @@ impl Kind {
             Kind::Export => &[13, 1, 2, 14, 7, 8, 15, 16, 3],
             Kind::Import => &[13, 1, 14, 3, 15, 16, 17, 18, 19],
             Kind::Graft | Kind::Prune => &[1, 2, 3, 7, 8, 4, 5, 20],
+            Kind::SetJoin | Kind::SetIntersect => &[2, 3],
+            Kind::SetEqual => &[2],
         }
     }
 }
@@ -130,6 +142,9 @@ pub enum Case {
     Import { sheet: Vec<u8>, text: Vec<u8>, room: usize },
     Graft(Kept),
     Prune(Kept),
+    SetJoin { a: Vec<u8>, b: Vec<u8>, room: usize },
+    SetIntersect { a: Vec<u8>, b: Vec<u8>, room: usize },
+    SetEqual { a: Vec<u8>, b: Vec<u8> },
 }
 
 /// What part and reference agree on: the reply, and the cells written, of one output after the other.
@@ -211,6 +226,9 @@ impl Case {
             Case::Import { .. } => Kind::Import,
             Case::Graft(_) => Kind::Graft,
             Case::Prune(_) => Kind::Prune,
+            Case::SetJoin { .. } => Kind::SetJoin,
+            Case::SetIntersect { .. } => Kind::SetIntersect,
+            Case::SetEqual { .. } => Kind::SetEqual,
         }
     }
 
@@ -382,6 +400,26 @@ impl Case {
                 look_at_prune(kept, &due, chance)?;
                 compare_change(part::PRUNE, kept, due, chance)
             }
+            Case::SetJoin { a, b, room } => {
+                let due = sets::join(a, b, *room);
+                look_at_set(a, b, &due, |a, b| a | b, |a, b| a | b)?;
+                compare_set(part::SET_JOIN, a, b, *room, due, chance)
+            }
+            Case::SetIntersect { a, b, room } => {
+                let due = sets::intersect(a, b, *room);
+                look_at_set(a, b, &due, |a, b| a & b, |a, b| a & b)?;
+                compare_set(part::SET_INTERSECT, a, b, *room, due, chance)
+            }
+            Case::SetEqual { a, b } => {
+                let due = sets::equal(a, b);
+                agreed(due.is_err() || due == Ok(a == b) && due == Ok(words_of(a) == words_of(b)), "equal sets")?;
+                let mut a = Lent::input("first set", a, chance);
+                let mut b = Lent::input("second set", b, chance);
+                let got = part::set_equal(&mut a, &mut b);
+                a.unchanged()?;
+                b.unchanged()?;
+                settle(got, due.map(u64::from))
+            }
         }
     }
 }
@@ -404,6 +442,24 @@ fn compare_change(
     let Outcome { reply, mut written } = settle_record(got, due.map(|changed| changed.record), &out)?;
     written.extend(settle_output(got, cells, &out_table)?.written);
     Ok(Outcome { reply, written })
+}
+
+/// Puts a join or an intersection of two sets to the part.
+fn compare_set(
+    entry: part::SetOfTwo,
+    a: &[u8],
+    b: &[u8],
+    room: usize,
+    due: Answer<Vec<u8>>,
+    chance: &mut Chance,
+) -> Result<Outcome, String> {
+    let mut a = Lent::input("first set", a, chance);
+    let mut b = Lent::input("second set", b, chance);
+    let mut out = Lent::output("set", room, chance);
+    let got = part::set_of_two(entry, &mut a, &mut b, &mut out);
+    a.unchanged()?;
+    b.unchanged()?;
+    settle_output(got, no_number(due), &out)
 }
 
 /// The error of a reference that contradicts itself.
@@ -556,6 +612,29 @@ fn look_at_graft(kept: &Kept, due: &Answer<Changed>, chance: &mut Chance) -> Res
 fn look_at_prune(kept: &Kept, due: &Answer<Changed>, chance: &mut Chance) -> Result<(), String> {
     let Ok(Changed { record, table }) = due else { return Ok(()) };
     look_at_smaller(&Tree::from_listing(kept.n, &kept.listing), kept.named, &record.listing, table, chance)
+}
+
+/// The words of a set: leaf k is bit k mod 64 of word k div 64.
+fn words_of(set: &[u8]) -> Vec<u64> {
+    let bit = |leaf: usize| u64::from(set[leaf / 8] >> (leaf % 8) & 1);
+    let word = |first: usize| (0..64).map(|place| bit(first + place) << place).sum();
+    (0..8 * set.len()).step_by(64).map(word).collect()
+}
+
+/// What is got leaf by leaf is also got byte by byte, and a word at a time; the words of a set are its bytes.
+fn look_at_set(
+    a: &[u8],
+    b: &[u8],
+    due: &Answer<Vec<u8>>,
+    of_bytes: fn(u8, u8) -> u8,
+    of_words: fn(u64, u64) -> u64,
+) -> Result<(), String> {
+    let Ok(set) = due else { return Ok(()) };
+    let by_bytes: Vec<u8> = a.iter().zip(b).map(|(&a, &b)| of_bytes(a, b)).collect();
+    agreed(by_bytes == *set, "set byte by byte")?;
+    let by_words: Vec<u64> = words_of(a).into_iter().zip(words_of(b)).map(|(a, b)| of_words(a, b)).collect();
+    agreed(by_words == words_of(set), "set a word at a time")?;
+    agreed(by_words.iter().flat_map(|word| word.to_le_bytes()).eq(set.iter().copied()), "words of a set, and back")
 }
 
 /// How long a text may be of which every completion is tried.

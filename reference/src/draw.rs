@@ -1,4 +1,5 @@
-//! Draws: trees, listings, tables, lists of merges, polls and sheets left to chance, good ones and spoilt ones.
+//! Draws: trees, listings, tables, lists of merges, polls, sheets and leaf sets left to chance, good ones and spoilt
+//! ones.
 //!
 //! Most draws have few leaves and now and then one has 128. A lent input is spoilt at a random place, a length or a
 //! room is off by one or more, and several of these meet in one case, so that the order of the refusals shows.
@@ -9,6 +10,7 @@ use crate::graft::Kept;
 use crate::merge::finished_list;
 use crate::part::Cell;
 use crate::poll::{poll, records_of, Record, LAST_CODE};
+use crate::sets::{set_of, SET_BYTES, SET_LEAVES};
 use crate::table::{above_diagonal, add_quartet, of_tree, pairs_of, put, quartets, scaled, times, COUNTS, POLL};
 use crate::texts;
 use crate::tree::{members, single, LeafSet, Tree};
@@ -112,6 +114,18 @@ pub fn any_case(kind: Kind, chance: &mut Chance) -> Case {
             let n = lent_kept_count(chance);
             let leaf = lent_number(n.clamp(3, 128), chance);
             Case::Prune(lent_kept(n, leaf, n.wrapping_sub(1), chance))
+        }
+        Kind::SetJoin => {
+            let [a, b] = lent_sets(chance);
+            Case::SetJoin { a, b, room: lent_room(SET_BYTES, chance) }
+        }
+        Kind::SetIntersect => {
+            let [a, b] = lent_sets(chance);
+            Case::SetIntersect { a, b, room: lent_room(SET_BYTES, chance) }
+        }
+        Kind::SetEqual => {
+            let [a, b] = lent_sets(chance);
+            Case::SetEqual { a, b }
         }
     }
 }
@@ -867,4 +881,68 @@ fn spoil_bytes(sheet: &mut Vec<u8>, chance: &mut Chance) {
         3 => sheet[place] = u8::any(chance),
         _ => sheet[place] ^= 1 << chance.below(8),
     }
+}
+
+// Leaf sets.
+
+/// A set of any leaves, of few or of all but few, of one or of all but one, of none or of all, or of the leaves up to
+/// one or from one on.
+fn any_set(chance: &mut Chance) -> Vec<u8> {
+    let leaf = chance.below(SET_LEAVES);
+    match chance.below(10) {
+        0 => set_of([]),
+        1 => set_of(0..SET_LEAVES),
+        2 => set_of([leaf]),
+        3 => set_of((0..SET_LEAVES).filter(|&other| other != leaf)),
+        4 => set_of(0..leaf),
+        5 => set_of(leaf..SET_LEAVES),
+        6 => set_of((0..SET_LEAVES).filter(|_| chance.one_in(16))),
+        7 => set_of((0..SET_LEAVES).filter(|_| chance.below(16) > 0)),
+        _ => (0..SET_BYTES).map(|_| u8::any(chance)).collect(),
+    }
+}
+
+/// The leaves below two edges of a tree.
+fn sets_of_tree(chance: &mut Chance) -> [Vec<u8>; 2] {
+    let n = good_count(chance);
+    let edges: Vec<LeafSet> = any_tree(n, chance).edges().collect();
+    [(); 2].map(|()| set_of(members(chance.of(&edges))))
+}
+
+/// Two sets that have nothing to do with each other, or of one tree; else the second is the first, the first with one
+/// leaf more or fewer, a part of it, it and more, of other leaves alone, or the first with its bytes moved round.
+fn two_sets(chance: &mut Chance) -> [Vec<u8>; 2] {
+    let (one, mut other) = (any_set(chance), any_set(chance));
+    let (leaf, by) = (chance.below(SET_LEAVES), chance.of(&[1, SET_BYTES / 2, SET_BYTES - 1]));
+    let places = 0..SET_BYTES;
+    match chance.below(12) {
+        0 | 1 => other = one.clone(),
+        2 | 3 => {
+            other = one.clone();
+            other[leaf / 8] ^= 1 << (leaf % 8);
+        }
+        4 => places.for_each(|place| other[place] &= one[place]),
+        5 => places.for_each(|place| other[place] |= one[place]),
+        6 => places.for_each(|place| other[place] &= !one[place]),
+        7 => other = [&one[by..], &one[..by]].concat(),
+        8 | 9 => return sets_of_tree(chance),
+        _ => {}
+    }
+    [one, other]
+}
+
+/// Lengths that sets are lent with, a set's first.
+pub const SET_LENGTHS: [usize; 8] =
+    [SET_BYTES, 0, 1, SET_BYTES / 2, SET_BYTES - 1, SET_BYTES + 1, 2 * SET_BYTES, SET_BYTES + 256];
+
+/// Two sets in any order, of which now and then one or both are longer or shorter than a set.
+fn lent_sets(chance: &mut Chance) -> [Vec<u8>; 2] {
+    let mut sets = two_sets(chance);
+    chance.shuffle(&mut sets);
+    for set in &mut sets {
+        if chance.one_in(8) {
+            set.resize_with(chance.of(&SET_LENGTHS), || u8::any(chance));
+        }
+    }
+    sets
 }

@@ -3,9 +3,10 @@
 //! Each case states what the paper says of it; the part and the reference both have to give it.
 
 use crate::cases::{Case, Outcome};
-use crate::draw::NO_ORIGINS;
+use crate::draw::{NO_ORIGINS, SET_LENGTHS};
 use crate::graft::Kept;
 use crate::poll::Record;
+use crate::sets::SET_BYTES;
 use crate::sheet;
 use crate::table::{of_tree, put, quartets, scaled, COUNTS, POLL};
 use crate::tree::Tree;
@@ -169,6 +170,8 @@ pub fn known_cases() -> Vec<Known> {
     cases.extend(grafts());
     cases.extend(prunes());
     cases.extend(refused_changes());
+    cases.extend(sets());
+    cases.extend(set_sizes());
     cases
 }
 
@@ -369,7 +372,7 @@ fn tables() -> Vec<Known> {
     ]
 }
 
-/// Leaf counts 2 and 129 are refused by every operation, 128 is accepted.
+/// Leaf counts 2 and 129 are refused by every operation that has one, 128 is accepted.
 fn counts() -> Vec<Known> {
     let mut known = Vec::new();
     for n in [2, 129] {
@@ -419,6 +422,7 @@ fn lengths() -> Vec<Known> {
     let (n, origin) = (5, IMPORTED as u32);
     let (listing, table, question) = (P7_LISTING.to_vec(), p7(), vec![0, 1, 3, 4]);
     let merges: Vec<u16> = vec![3, 4, 0, 1, 2, 3, 0, 2];
+    let set = set(&[(0, 0b11100)]);
     let inputs = [
         Case::Check { n, listing: longer(&listing) },
         Case::Standardise { n, listing: longer(&listing), room: 6 },
@@ -439,6 +443,13 @@ fn lengths() -> Vec<Known> {
         Case::Graft(kept(n, &listing, longer(&table), 1)),
         Case::Prune(kept(n, &longer(&listing), table.clone(), 1)),
         Case::Prune(kept(n, &listing, longer(&table), 1)),
+        Case::SetJoin { a: longer(&set), b: set.clone(), room: SET_BYTES },
+        Case::SetJoin { a: set.clone(), b: longer(&set), room: SET_BYTES },
+        Case::SetIntersect { a: longer(&set), b: set.clone(), room: SET_BYTES },
+        Case::SetIntersect { a: set.clone(), b: longer(&set), room: SET_BYTES },
+        Case::SetEqual { a: longer(&set), b: set.clone() },
+        Case::SetEqual { a: set.clone(), b: longer(&set) },
+        Case::SetEqual { a: longer(&set), b: longer(&set) },
     ];
     let sheets = [
         Case::CheckSheet { sheet: longer(&PAPER_SHEET) },
@@ -469,6 +480,8 @@ fn lengths() -> Vec<Known> {
         (Case::Poll { n, records: p7_poll(), room: FAR }, Due::Written(0, sixths)),
         (Case::SheetTable { sheet: PAPER_SHEET.into(), room: FAR }, Due::Written(5, cells)),
         (Case::RebuildSheet { sheet: PAPER_SHEET.into(), room: FAR }, Due::Written(0, bytes)),
+        (Case::SetJoin { a: set.clone(), b: set.clone(), room: FAR }, Due::Written(0, wide(&set))),
+        (Case::SetIntersect { a: set.clone(), b: set.clone(), room: FAR }, Due::Written(0, wide(&set))),
     ];
     let mut known = Vec::new();
     known.extend(inputs.map(|case| Known { name: "an input too long by 65,536", case, due: Due::Refused(2, 0) }));
@@ -619,6 +632,77 @@ fn refused_changes() -> Vec<Known> {
     let fitting = Kept { room: 4, table_room: 16, ..p7_kept() };
     cases.push((Case::Prune(fitting), changed(&P3_LISTING, &p3())));
     cases.into_iter().map(|(case, due)| Known { name: "what is wrong with a change", case, due }).collect()
+}
+
+/// A set of which some bytes are named; the others are 0.
+fn set(named: &[(usize, u8)]) -> Vec<u8> {
+    let mut bytes = vec![0; SET_BYTES];
+    named.iter().for_each(|&(place, byte)| bytes[place] = byte);
+    bytes
+}
+
+/// A set whose bytes are all alike.
+fn alike(byte: u8) -> Vec<u8> {
+    vec![byte; SET_BYTES]
+}
+
+/// What two sets make joined and intersected, and whether they are equal.
+fn sets() -> Vec<Known> {
+    let (inner, outer) = ((0, 0b11000), (0, 0b11100));
+    let (leaf_0, leaf_63, leaf_64, last) = ((0, 1), (7, 0x80), (8, 1), (SET_BYTES - 1, 0x80));
+    let (none, all) = (alike(0), alike(0xFF));
+    let sets = [
+        ("the splits of P7's tree", set(&[inner]), set(&[outer]), set(&[outer]), set(&[inner])),
+        ("a split and the leaf beside it", set(&[inner]), set(&[(0, 0b100)]), set(&[outer]), none.clone()),
+        ("no leaf", none.clone(), none.clone(), none.clone(), none.clone()),
+        ("every leaf", all.clone(), all.clone(), all.clone(), all.clone()),
+        ("every leaf and none", all.clone(), none.clone(), all.clone(), none.clone()),
+        ("every second leaf and the others", alike(0x55), alike(0xAA), all.clone(), none.clone()),
+        ("half of each byte", alike(0x3C), alike(0x0F), alike(0x3F), alike(0x0C)),
+        ("leaf 0 and every leaf", set(&[leaf_0]), all.clone(), all.clone(), set(&[leaf_0])),
+        ("the last leaf and every leaf", set(&[last]), all.clone(), all, set(&[last])),
+        ("leaf 0 and no leaf", set(&[leaf_0]), none.clone(), set(&[leaf_0]), none.clone()),
+        ("the last leaf and no leaf", set(&[last]), none.clone(), set(&[last]), none.clone()),
+        ("the last leaf twice", set(&[last]), set(&[last]), set(&[last]), set(&[last])),
+        ("the first leaf and the last", set(&[leaf_0]), set(&[last]), set(&[leaf_0, last]), none.clone()),
+        ("leaves 63 and 64", set(&[leaf_63]), set(&[leaf_64]), set(&[leaf_63, leaf_64]), none.clone()),
+        ("leaf 63 and both", set(&[leaf_63]), set(&[leaf_63, leaf_64]), set(&[leaf_63, leaf_64]), set(&[leaf_63])),
+        ("leaf 64 and both", set(&[leaf_64]), set(&[leaf_63, leaf_64]), set(&[leaf_63, leaf_64]), set(&[leaf_64])),
+        ("leaves 0 and 64", set(&[leaf_0]), set(&[leaf_64]), set(&[leaf_0, leaf_64]), none),
+    ];
+    let known = |(name, a, b, joined, common): (&'static str, Vec<u8>, Vec<u8>, Vec<u8>, Vec<u8>)| {
+        let (room, equal) = (SET_BYTES, u64::from(a == b));
+        [
+            (Case::SetJoin { a: a.clone(), b: b.clone(), room }, Due::Written(0, wide(&joined))),
+            (Case::SetJoin { a: b.clone(), b: a.clone(), room }, Due::Written(0, wide(&joined))),
+            (Case::SetIntersect { a: a.clone(), b: b.clone(), room }, Due::Written(0, wide(&common))),
+            (Case::SetIntersect { a: b.clone(), b: a.clone(), room }, Due::Written(0, wide(&common))),
+            (Case::SetEqual { a: b.clone(), b: a.clone() }, Due::Written(equal, Vec::new())),
+            (Case::SetEqual { a, b }, Due::Written(equal, Vec::new())),
+        ]
+        .map(|(case, due)| Known { name, case, due })
+    };
+    sets.into_iter().flat_map(known).collect()
+}
+
+/// Lengths of two sets, each with each, and rooms: 2 is judged before 3.
+fn set_sizes() -> Vec<Known> {
+    let mut cases = Vec::new();
+    for lengths in SET_LENGTHS.iter().flat_map(|&a| SET_LENGTHS.map(|b| [a, b])) {
+        let ([a, b], fit) = (lengths.map(|length| vec![0x55; length]), lengths == [SET_BYTES; 2]);
+        let equal = Case::SetEqual { a: a.clone(), b: b.clone() };
+        cases.push((equal, if fit { Due::Written(1, Vec::new()) } else { Due::Refused(2, 0) }));
+        for room in [0, 1, SET_BYTES - 1, SET_BYTES, SET_BYTES + 1, SET_BYTES + 24] {
+            let due = || match fit {
+                false => Due::Refused(2, 0),
+                true if room < SET_BYTES => Due::Refused(3, 0),
+                true => Due::Written(0, wide(&alike(0x55))),
+            };
+            cases.push((Case::SetJoin { a: a.clone(), b: b.clone(), room }, due()));
+            cases.push((Case::SetIntersect { a: a.clone(), b: b.clone(), room }, due()));
+        }
+    }
+    cases.into_iter().map(|(case, due)| Known { name: "lengths of two sets, and rooms", case, due }).collect()
 }
 
 fn polls() -> Vec<Known> {

@@ -3,9 +3,9 @@
 //! `reference [N [SEED]]` compares, in this order: the paper's own cases; every tree of 3 to 6 leaves, its records also
 //! handed from one operation to the next, and one of every shape of 32, 127 and 128; the polls of trees' own pairings;
 //! guesses of small tables and of rough ones; grafts and prunes of large trees, and a walk of them; every listing,
-//! question, list of proposals and poll of very few, every text of up to six bytes and every text close to a right one;
-//! and N rounds (20,000 if not given) from SEED on (1 if not given), each with one case of every kind; what these
-//! guesses make is handed on.
+//! question, list of proposals and poll of very few, every text of up to six bytes and every text close to a right one,
+//! leaf sets of every two leaves and of every two bytes, and those that differ in one leaf; and N rounds (20,000 if not
+//! given) from SEED on (1 if not given), each with one case of every kind; what these guesses make is handed on.
 //! It also tries demand 3 on the reference's own merging, over every finished list of small tables. The first
 //! difference stops it.
 
@@ -17,12 +17,14 @@ mod graft;
 mod guess;
 mod known;
 mod merge;
+mod nested;
 mod newick;
 mod operations;
 mod origin;
 mod part;
 mod poll;
 mod refuse;
+mod sets;
 mod sheet;
 mod small;
 mod strains;
@@ -176,13 +178,14 @@ impl Comparison {
 
     /// Hands the record that a case has made to the next operation. Restandardised from any listing of its tree it is
     /// the same record. Its gaps to the table given add up to the total that comes with a guess; they are 0 where it is
-    /// marked rebuilt, and nowhere else. What grafts and prunes make has a table of its own.
+    /// marked rebuilt, and nowhere else. What grafts and prunes make has a table of its own, and splits are leaf sets.
     pub fn hand_on(&mut self, case: &Case, made: Outcome, origin: &str, chance: &mut Chance) -> Result<(), String> {
         let given = match case {
             Case::Rebuild { poll, table, .. } | Case::Guided { poll, table, .. } | Case::Guess { poll, table, .. } => {
                 Some((*poll, table.clone()))
             }
             Case::Import { .. } => None,
+            Case::Splits { n, listing, .. } => return self.hand_on_splits(*n, listing, made, origin, chance),
             Case::Graft(kept) => return self.hand_on_change(kept, kept.n + 1, made, origin, chance),
             Case::Prune(kept) => return self.hand_on_change(kept, kept.n - 1, made, origin, chance),
             _ => return Ok(()),
@@ -259,7 +262,10 @@ impl Comparison {
                 let mut chance = Chance::new(n as u64, shape as u64);
                 let tree = draw::tree_of_shape(shape, n, &mut chance);
                 for case in operations::cases_of_tree(&tree, &mut chance) {
-                    self.put(&case, &origin, &mut chance)?;
+                    match case {
+                        Case::Splits { .. } => self.put_and_hand_on(&case, &origin, &mut chance)?,
+                        _ => drop(self.put(&case, &origin, &mut chance)?),
+                    }
                 }
             }
         }
@@ -300,7 +306,8 @@ impl Comparison {
         Ok(())
     }
 
-    /// Every listing, question, list of proposals and poll of few leaves, and every short text, the bad ones too.
+    /// Every listing, question, list of proposals and poll of few leaves, and every short text, the bad ones too; and
+    /// leaf sets in which every leaf and every byte takes its turn.
     fn every_input(&mut self) -> Result<(), String> {
         self.put_all("every listing of few leaves", small::every_listing())?;
         self.put_all("every question of few leaves", small::every_question())?;
@@ -308,7 +315,10 @@ impl Comparison {
         self.put_all("every poll of few leaves", small::every_poll())?;
         self.put_all("the table of every poll of few leaves, rebuilt", small::every_polled_table())?;
         self.put_all("every text of up to six bytes", small::every_text())?;
-        self.put_all("every text that is two changes or fewer from a right one", small::every_near_text())
+        self.put_all("every text that is two changes or fewer from a right one", small::every_near_text())?;
+        self.put_all("every two leaf sets of one leaf", small::every_two_leaves())?;
+        self.put_all("leaf sets that differ in one leaf, in every one", small::every_leaf_more())?;
+        self.put_all("leaf sets with every two bytes", small::every_two_bytes())
     }
 
     fn put_all(&mut self, origin: &str, cases: impl Iterator<Item = Case>) -> Result<(), String> {

@@ -96,6 +96,10 @@ unsafe extern "C" {
         out_table: *mut u32,
         table_room: usize,
     ) -> u64;
+    fn quartree_set_join(a: *const u8, a_len: usize, b: *const u8, b_len: usize, out: *mut u8, room: usize) -> u64;
+    fn quartree_set_intersect(a: *const u8, a_len: usize, b: *const u8, b_len: usize, out: *mut u8, room: usize)
+        -> u64;
+    fn quartree_set_equal(a: *const u8, a_len: usize, b: *const u8, b_len: usize) -> u64;
 }
 
 /// How many cells a guard has at least.
@@ -286,6 +290,21 @@ pub fn change(
     unsafe { entry(n, listing, children, table, cells, named, out.pointer(), room, out_table.pointer(), table_room) }
 }
 
+/// What the entries that make a set of two both take.
+pub type SetOfTwo = unsafe extern "C" fn(*const u8, usize, *const u8, usize, *mut u8, usize) -> u64;
+
+pub const SET_JOIN: SetOfTwo = quartree_set_join;
+pub const SET_INTERSECT: SetOfTwo = quartree_set_intersect;
+
+/// Two sets joined, or intersected.
+pub fn set_of_two(entry: SetOfTwo, a: &mut Lent<u8>, b: &mut Lent<u8>, out: &mut Lent<u8>) -> u64 {
+    unsafe { entry(a.pointer(), a.len(), b.pointer(), b.len(), out.pointer(), out.len()) }
+}
+
+pub fn set_equal(a: &mut Lent<u8>, b: &mut Lent<u8>) -> u64 {
+    unsafe { quartree_set_equal(a.pointer(), a.len(), b.pointer(), b.len()) }
+}
+
 /// The entries made of the reference's own operations.
 #[cfg(own)]
 mod own {
@@ -295,7 +314,7 @@ mod own {
     use crate::origin::{restandardise, Origin, TreeRecord};
     use crate::poll::Record;
     use crate::refuse::{reply, Answer};
-    use crate::{merge, newick, poll, sheet, table, tree};
+    use crate::{merge, newick, poll, sets, sheet, table, tree};
     use std::slice::{from_raw_parts, from_raw_parts_mut};
 
     /// Writes an accepted result to the beginning of the output.
@@ -571,5 +590,37 @@ mod own {
     ) -> u64 {
         let kept = unsafe { lent_kept(n, (listing, len), (table, cells), leaf, (room, table_room)) };
         unsafe { give_change(prune(&kept), (out, room), (out_table, table_room)) }
+    }
+
+    #[no_mangle]
+    pub unsafe extern "C" fn quartree_set_join(
+        a: *const u8,
+        a_len: usize,
+        b: *const u8,
+        b_len: usize,
+        out: *mut u8,
+        room: usize,
+    ) -> u64 {
+        let (a, b) = unsafe { (from_raw_parts(a, a_len), from_raw_parts(b, b_len)) };
+        unsafe { give(sets::join(a, b, room), out, room) }
+    }
+
+    #[no_mangle]
+    pub unsafe extern "C" fn quartree_set_intersect(
+        a: *const u8,
+        a_len: usize,
+        b: *const u8,
+        b_len: usize,
+        out: *mut u8,
+        room: usize,
+    ) -> u64 {
+        let (a, b) = unsafe { (from_raw_parts(a, a_len), from_raw_parts(b, b_len)) };
+        unsafe { give(sets::intersect(a, b, room), out, room) }
+    }
+
+    #[no_mangle]
+    pub unsafe extern "C" fn quartree_set_equal(a: *const u8, a_len: usize, b: *const u8, b_len: usize) -> u64 {
+        let (a, b) = unsafe { (from_raw_parts(a, a_len), from_raw_parts(b, b_len)) };
+        reply(sets::equal(a, b).map(u64::from))
     }
 }

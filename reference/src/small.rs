@@ -1,7 +1,9 @@
-//! Everything of few leaves: each listing, question, list of proposals and poll, and each short text, the bad ones too.
+//! Everything of few leaves: each listing, question, list of proposals and poll, and each short text, the bad ones too;
+//! and leaf sets of each leaf.
 
 use crate::cases::Case;
 use crate::poll::{poll, Record, LAST_CODE};
+use crate::sets::{set_of, SET_BYTES, SET_LEAVES};
 use crate::table::{self, COUNTS, POLL};
 use crate::tree::Tree;
 use std::collections::BTreeSet;
@@ -139,4 +141,41 @@ pub fn every_near_text() -> impl Iterator<Item = Case> {
     let near: BTreeSet<Vec<u8>> =
         right.iter().flat_map(|text| changed(text)).flat_map(|text| [changed(&text), vec![text]].concat()).collect();
     near.into_iter().map(import)
+}
+
+/// Two sets joined, intersected and tested for equality.
+fn of_two_sets(a: Vec<u8>, b: Vec<u8>) -> [Case; 3] {
+    let room = SET_BYTES;
+    [
+        Case::SetJoin { a: a.clone(), b: b.clone(), room },
+        Case::SetIntersect { a: a.clone(), b: b.clone(), room },
+        Case::SetEqual { a, b },
+    ]
+}
+
+/// Every two sets of one leaf each.
+pub fn every_two_leaves() -> impl Iterator<Item = Case> {
+    let with = |one: usize| (0..SET_LEAVES).flat_map(move |other| of_two_sets(set_of([one]), set_of([other])));
+    (0..SET_LEAVES).flat_map(with)
+}
+
+/// What else is in two sets that differ in one leaf: nothing, all, every second or third leaf, or those of one word.
+const OTHERS: [fn(usize) -> bool; 6] =
+    [|_| false, |_| true, |leaf| leaf % 2 == 0, |leaf| leaf % 3 == 0, |leaf| leaf < 64, |leaf| leaf >= 64];
+
+/// Two sets that differ in one leaf, in every leaf and in both orders.
+pub fn every_leaf_more() -> impl Iterator<Item = Case> {
+    let leaves_and_others = (0..SET_LEAVES).flat_map(|leaf| OTHERS.map(|has| (leaf, has)));
+    leaves_and_others.flat_map(|(leaf, has)| {
+        let without = set_of((0..SET_LEAVES).filter(|&other| other != leaf && has(other)));
+        let with = set_of((0..SET_LEAVES).filter(|&other| other == leaf || has(other)));
+        of_two_sets(without.clone(), with.clone()).into_iter().chain(of_two_sets(with, without))
+    })
+}
+
+/// Every two bytes, as many pairs of them as a set has bytes in two sets.
+pub fn every_two_bytes() -> impl Iterator<Item = Case> {
+    let pairs: Vec<(u8, u8)> = (0..=255).flat_map(|a| (0..=255).map(move |b| (a, b))).collect();
+    let sets: Vec<(Vec<u8>, Vec<u8>)> = pairs.chunks(SET_BYTES).map(|pairs| pairs.iter().copied().unzip()).collect();
+    sets.into_iter().flat_map(|(a, b)| of_two_sets(a, b))
 }

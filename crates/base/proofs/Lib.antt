@@ -7,3 +7,4 @@ pub mod Searches
 pub mod Fractions
 pub mod RowOrder
 pub mod Least
+pub mod Bits

@@ -40,9 +40,12 @@ most-pairs = most-leaves * (most-leaves - 1) / 2
 abbrev pub largest-cell : ℕ
 largest-cell = most-rows * (most-rows - 1) / 2
 
--- the bytes of a leaf set: a bit for each of the most leaves, in whole words of 64
+-- the words of 64 bits of a leaf set, a bit for each of the most leaves; and its bytes, those of whole words
+abbrev pub set-words : ℕ
+set-words = (most-leaves + 63) / 64
+
 abbrev pub set-bytes : ℕ
-set-bytes = 8 * ((most-leaves + 63) / 64)
+set-bytes = 8 * set-words
 
 -- a poll has 4 to 32 leaves, and so many cells at most
 abbrev pub fewest-polled : ℕ

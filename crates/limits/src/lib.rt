@@ -22,8 +22,10 @@ pub const MOST_CELLS: usize = MOST_LEAVES * MOST_LEAVES;
 // The pairs of the most leaves.
 pub const MOST_PAIRS: usize = MOST_LEAVES * (MOST_LEAVES - 1) / 2;
 
-// The bytes of a leaf set: one bit a leaf, in whole words of 64 bits.
-pub const SET_BYTES: usize = 8 * ((MOST_LEAVES + 63) / 64);
+// The words of 64 bits of a leaf set, one bit a leaf; and its bytes, those of whole words.
+pub const SET_WORDS: usize = (MOST_LEAVES + 63) / 64;
+
+pub const SET_BYTES: usize = 8 * SET_WORDS;
 
 // A poll has fewest to most leaves, and so many cells at most.
 pub const FEWEST_POLLED: usize = 4;

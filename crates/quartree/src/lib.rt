@@ -1,5 +1,6 @@
 // The C interface (include/quartree.h): one thin entry for each public operation.
 use limits::kind_of;
+use sets::Combination;
 use tree_records::origin_of;
 ghost use mathlib.Core.Path.{_≡_};
 ghost use Prim.Native.Nat.{_+_, _*_};
@@ -12,6 +13,8 @@ ghost use Rattle.tree_records.specs.Origins.{origin-of};
 ghost use Rattle.tree_records.specs.Records.{marked};
 ghost use Rattle.listings.specs.Operations.{check-answer};
 ghost use Rattle.standard_listings.specs.Operations.{standardise-answer};
+ghost use Rattle.sets.specs.declared.Combination.the-variants.{Union, Intersection};
+ghost use Rattle.lent_sets.specs.Operations.{combine-answer, equal-answer};
 ghost use Rattle.splits.specs.Operations.{splits-answer};
 ghost use Rattle.pairings.specs.Operations.{lent-pairing-answer};
 ghost use Rattle.tree_tables.specs.Operations.{table-answer};
@@ -32,7 +35,7 @@ ghost use Rattle.guess_replies.specs.Replies.{guess-reply};
 ghost use Rattle.newick_rules.specs.Operations.{import-answer, export-answer};
 ghost use Rattle.newick_rules.specs.Meanings.{ImportMeans};
 ghost use Rattle.poll_rules.specs.Operations.{poll-answer};
-ghost use Rattle.replies.specs.Replies.{reply, number-reply, length-reply, reply-with, number-alone};
+ghost use Rattle.replies.specs.Replies.{reply, number-reply, verdict-reply, length-reply, reply-with, number-alone};
 ghost use Rattle.record_operations.specs.Operations.{rebuild-record, guided-record, import-record};
 ghost use Rattle.record_operations.specs.Operations.{restandardise-record};
 ghost use Rattle.record_replies.specs.Replies.{record-reply};
@@ -84,6 +87,38 @@ pub extern "C" fn quartree_splits(n: usize, listing: &[u16], out: &mut [u8]) -> 
         ≡ written (splits-answer n (now (listing .entry)) (length (now (out .entry)))) (now (out .entry)) ⌝ }
 {
     replies::reply_of(splits::splits(n, listing, out))
+}
+
+// The leaves of either of two leaf sets: 2, 3.
+#[no_mangle]
+pub extern "C" fn quartree_set_join(a: &[u8], b: &[u8], out: &mut [u8]) -> u64
+    ensures answer { λ r. ⌜ r
+        ≡ reply (combine-answer Union (now (a .entry)) (now (b .entry)) (length (now (out .entry)))) ⌝ }
+    ensures buffer { λ r. ⌜ now (out .exit)
+        ≡ written (combine-answer Union (now (a .entry)) (now (b .entry)) (length (now (out .entry))))
+        (now (out .entry)) ⌝ }
+{
+    replies::reply_of(lent_sets::combine(Combination::Union, a, b, out))
+}
+
+// The leaves of both of two leaf sets: 2, 3.
+#[no_mangle]
+pub extern "C" fn quartree_set_intersect(a: &[u8], b: &[u8], out: &mut [u8]) -> u64
+    ensures answer { λ r. ⌜ r
+        ≡ reply (combine-answer Intersection (now (a .entry)) (now (b .entry)) (length (now (out .entry)))) ⌝ }
+    ensures buffer { λ r. ⌜ now (out .exit)
+        ≡ written (combine-answer Intersection (now (a .entry)) (now (b .entry)) (length (now (out .entry))))
+        (now (out .entry)) ⌝ }
+{
+    replies::reply_of(lent_sets::combine(Combination::Intersection, a, b, out))
+}
+
+// Whether two leaf sets are equal, 1 or 0 as the figure: 2.
+#[no_mangle]
+pub extern "C" fn quartree_set_equal(a: &[u8], b: &[u8]) -> u64
+    ensures { λ r. ⌜ r ≡ verdict-reply (equal-answer (now (a .entry)) (now (b .entry))) ⌝ }
+{
+    replies::verdict_reply(lent_sets::equal(a, b))
 }
 
 // How the tree that a listing stands for pairs four leaves: 1, 2, 7, 8, 9.

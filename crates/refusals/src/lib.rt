@@ -51,6 +51,13 @@ pub enum Outcome {
     Refused(Refusal),
 }
 
+// What an operation answers that says yes or no.
+pub enum Verdict {
+    Yes,
+    No,
+    Refused(Refusal),
+}
+
 // The number of a refusal.
 pub fn number(r: Refusal) -> u32
     ensures { λ k. ⌜ k ≡ number-of r ⌝ }

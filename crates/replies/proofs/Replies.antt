@@ -2,15 +2,19 @@
 -- numbers in one figure can be taken apart again; it is 0 exactly when the call is accepted with nothing to say.
 use mathlib.Core.Path.{_≡_, refl, ap, sym, _∙_}
 use mathlib.Core.Logic.{_↔_}
+use mathlib.Core.Bool.{Bool, true, false, cond}
 use Prim.Native.Nat.{ℕ, _+_, _*_, _/_, _%_, _<_}
 use native.Mathlib.Omega.{arith}
 use Rattle.refusals.specs.declared.Outcome.{Outcome}
 use Rattle.refusals.specs.declared.Refusal.the-variants.{Halves, NoTree}
+use Rattle.refusals.specs.declared.Verdict.{Verdict}
 use Rattle.refusals.specs.Refusals.{number-of, figures-of, Answer, accepted, refused, outcome}
+use Rattle.refusals.specs.Verdicts.{verdict}
 use Rattle.refusals.proofs.Answers.{accepted-not-refused, accepted-same}
 use Rattle.replies.specs.Replies.{eight-bits, figure-limit, in-one, figure, reply, number-reply, reply-with}
-use Rattle.replies.specs.Replies.{number-alone}
+use Rattle.replies.specs.Replies.{verdict-reply, number-alone}
 use Rattle.replies.specs.inner.Outcomes.{outcome-reply, outcome-reply-with, outcome-number}
+use Rattle.replies.specs.inner.Verdicts.{told-verdict}
 use Rattle.replies.proofs.Numbers.{numbered}
 
 -- A number of eight bits and a figure, taken apart: a figure below the limit is told whole.
@@ -151,3 +155,28 @@ number-reply-zero (refused r) l = unfold number-reply in (
   λ h. absurd (omega (arith, numbered r .0)),
   λ h. absurd (accepted-not-refused 0 r (sym h)),
 )
+
+-- The reply of a call that says yes or no: the number, and the figure 1 or 0; and as code makes it of the verdict v.
+yes-or-no : Answer Bool → ℕ
+yes-or-no (accepted b) = cond b 1 0
+yes-or-no (refused r) = 0
+
+verdict-reply-is : (a : Answer Bool) → verdict-reply a ≡ reply-with (yes-or-no a) a
+unfolding verdict-reply reply-with yes-or-no
+verdict-reply-is (accepted b) = refl
+verdict-reply-is (refused r) = refl
+
+pub verdict-number : (a : Answer Bool) → verdict-reply a % eight-bits ≡ number-alone a
+verdict-number a = ap (λ k. k % eight-bits) (verdict-reply-is a) ∙ reply-with-number (yes-or-no a) a
+
+pub verdict-figure : (b : Bool) → verdict-reply (accepted b) / eight-bits ≡ cond b 1 0
+unfolding verdict-reply
+verdict-figure true = refl
+verdict-figure false = refl
+
+pub verdict-replied :
+    {r : ℕ} {v : Verdict} (a : Answer Bool) → r ≡ told-verdict v → v ≡ verdict a → r ≡ verdict-reply a
+unfolding verdict verdict-reply
+verdict-replied (accepted true) h e = rw e at h
+verdict-replied (accepted false) h e = rw e at h
+verdict-replied (refused x) h e = rw e at h

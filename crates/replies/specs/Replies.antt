@@ -1,5 +1,6 @@
 -- The reply of a C call, one number of 64 bits: its bits 0 to 7 are 0, or the number of the refusal; the bits above are
 -- the figure that comes with it, its lowest 56 bits.
+use mathlib.Core.Bool.{Bool, cond}
 use mathlib.Core.List.{List, [], _∷_}
 use Prim.Native.Nat.{ℕ, _+_, _*_, _%_, _^_}
 use lib.ListN.{length}
@@ -36,6 +37,11 @@ reply (refused r) = refusal-reply r
 unfoldable pub number-reply : Answer ℕ → ℕ
 number-reply (accepted x) = in-one 0 x
 number-reply (refused r) = refusal-reply r
+
+-- the reply of a call that says yes or no: the figure is 1 or 0
+unfoldable pub verdict-reply : Answer Bool → ℕ
+verdict-reply (accepted b) = in-one 0 (cond b 1 0)
+verdict-reply (refused r) = refusal-reply r
 
 -- the reply of a call whose result stands in a buffer: its length is the figure
 unfoldable pub length-reply : {A : Type 0} → Answer (List A) → ℕ

@@ -1,11 +1,13 @@
 // The reply of a C call: the number of a refusal, or 0, and a figure, in one number of 64 bits.
 use refusals::Outcome;
 use refusals::Refusal;
+use refusals::Verdict;
 ghost use mathlib.Core.Path.{_≡_};
 ghost use Prim.Native.Nat.{_+_, _*_, _%_, _<_};
 ghost use Rattle.refusals.specs.Refusals.{figures-of};
 ghost use Rattle.replies.specs.Replies.{eight-bits, figure-limit, figure, in-one, refusal-reply};
 ghost use Rattle.replies.specs.inner.Outcomes.{outcome-reply, outcome-reply-with, outcome-number};
+ghost use Rattle.replies.specs.inner.Verdicts.{told-verdict};
 
 // How many numbers eight bits hold, and how many 56 do.
 const EIGHT_BITS: usize = 256;
@@ -77,6 +79,17 @@ pub fn reply_of(answer: Outcome) -> u64
     ensures { λ x. ⌜ x ≡ outcome-reply answer ⌝ }
 {
     reply_with(0, answer)
+}
+
+// The reply of a call that says yes or no: the figure is 1 or 0.
+pub fn verdict_reply(answer: Verdict) -> u64
+    ensures { λ x. ⌜ x ≡ told-verdict answer ⌝ }
+{
+    match answer {
+        Verdict::Yes => in_one(0, 1),
+        Verdict::No => in_one(0, 0),
+        Verdict::Refused(r) => refusal_reply(r),
+    }
 }
 
 // The number of an answer: 0, or the refusal's.

@@ -7,12 +7,13 @@ use native.Mathlib.Omega.{arith}
 use lib.ListN.{length, take, drop}
 use lib.Seq.{take-at, drop-append-add, drop-drop}
 use Rattle.base.specs.Lists.{tab}
+use Rattle.base.proofs.Bits.{length-cells}
 use Rattle.base.proofs.Lists.{length-tab, length-flat, flat-more}
 use Rattle.limits.specs.Limits.{set-bytes}
-use Rattle.trees.specs.Trees.{Tree, LeafSet, leaves}
+use Rattle.trees.specs.Trees.{Tree, leaves}
 use Rattle.trees.specs.Listings.{subtree-at, standard}
-use Rattle.trees.specs.Splits.{splits, byte-of, bytes-of, split-bytes}
-use Rattle.splits.specs.inner.NodeSets.{set-of-subtree, node-sets}
+use Rattle.trees.specs.Splits.{splits, bytes-of, split-bytes}
+use Rattle.splits.specs.inner.NodeSets.{node-sets}
 
 -- the nodes of the standard listing but the last: the splits of the tree
 pub standard-sets : (n : ℕ) (T : Tree) → node-sets n (standard n T) (n - 3) ≡ split-bytes n T
@@ -20,7 +21,7 @@ unfolding node-sets split-bytes splits
 standard-sets n T = refl
 
 module _ (n : ℕ) (l : List ℕ) where
-  sets-more : (k : ℕ) → node-sets n l (k + 1) ≡ node-sets n l k ++ set-of-subtree (subtree-at n l (n + k))
+  sets-more : (k : ℕ) → node-sets n l (k + 1) ≡ node-sets n l k ++ bytes-of (leaves (subtree-at n l (n + k)))
   unfolding node-sets
   sets-more k =
       rw (add-one k)
@@ -30,10 +31,10 @@ module _ (n : ℕ) (l : List ℕ) where
   sets-length : (k : ℕ) → length (node-sets n l k) ≡ set-bytes * k
   unfolding node-sets
   sets-length k =
-      rw (length-flat set-bytes bytes-of each (tab k (λ k. leaves (subtree-at n l (n + k)))), length-tab)
-    where
-      each : (e : LeafSet) → length (bytes-of e) ≡ set-bytes
-      each e = unfold bytes-of in length-tab set-bytes (byte-of e)
+      rw (
+        length-flat set-bytes bytes-of (length-cells 8 set-bytes) (tab k (λ k. leaves (subtree-at n l (n + k)))),
+        length-tab,
+      )
 
   -- the output before the first row
   pub written-none : (out : List ℕ) → out ≡ node-sets n l 0 ++ drop (set-bytes * 0) out
@@ -43,7 +44,7 @@ module _ (n : ℕ) (l : List ℕ) where
   -- a set put after those of the first k nodes
   pub written-more :
       (out out₀ s : List ℕ) (k : ℕ) → out ≡ node-sets n l k ++ drop (set-bytes * k) out₀
-      → s ≡ set-of-subtree (subtree-at n l (n + k))
+      → s ≡ bytes-of (leaves (subtree-at n l (n + k)))
       → take (set-bytes * k) out ++ s ++ drop (set-bytes * k + set-bytes) out
       ≡ node-sets n l (k + 1) ++ drop (set-bytes * (k + 1)) out₀
   written-more out out₀ s k e h =

@@ -5,7 +5,6 @@ ghost use lib.ListN.{length};
 ghost use Rattle.refusals.specs.Refusals.{outcome, written};
 ghost use Rattle.splits.specs.Operations.{splits-answer};
 
-mod sets;
 mod writing;
 
 // Writes the splits of the tree that a listing stands for at the front of `out`, as leaf sets.
@@ -19,7 +18,7 @@ pub fn splits(n: usize, listing: &[u16], out: &mut [u8]) -> Outcome
         return judged;
     };
     let mut rows = [0u16; limits::MOST_NUMBERS];
-    standard_listings::standardise(n, listing, &mut rows);
+    standard_listings::standard_rows(n, listing, &mut rows);
     let end = 2 * (n - 2);
     writing::write_splits(n, &rows[..end], out);
     judged

@@ -1,6 +1,6 @@
 -- Writing a subtree's rows from row s on: the rows of the first child, those of the second, and the node's own row make
 -- up its post-order; the recursion that does so writes the standard listing.
-use mathlib.Core.Path.{_≡_, refl, ap, sym, _∙_}
+use mathlib.Core.Path.{_≡_, refl, ap, _∙_}
 use mathlib.Core.List.{List, [], _∷_, _++_}
 use mathlib.Core.Option.{none}
 use Prim.Native.Nat.{ℕ, _+_, _-_, _*_, _≤_, _<_}
@@ -9,12 +9,10 @@ use native.Mathlib.Numerals.{add-one}
 use native.Mathlib.Omega.{arith}
 use native.Mathlib.Decide.{decLt}
 use borrow.Author.Tests.{lt-ltb, le-ltb}
-use lib.ListN.{length, getD, set, take, drop}
-use lib.Seq.{sets, length-sets, sets-eq, take-at}
+use lib.ListN.{length, getD, set, drop}
+use lib.Seq.{sets, length-sets, sets-eq}
 use Rattle.base.proofs.Lists.{sets-append}
-use Rattle.limits.specs.Limits.{IsLeafCount, most-numbers}
-use Rattle.refusals.specs.Refusals.{written}
-use Rattle.refusals.proofs.Answers.{written-done}
+use Rattle.limits.specs.Limits.{IsLeafCount}
 use Rattle.trees.specs.Trees.{Tree, leaf, node, size}
 use Rattle.trees.specs.Listings.{KeepsRules, tree-of, number-in, post-order, standard}
 use Rattle.trees.proofs.Trees.{size-node, size-pos, ordered-size}
@@ -22,8 +20,7 @@ use Rattle.trees.proofs.Rules.{listing-tree}
 use Rattle.trees.proofs.Blocks.{post-order-length, number-node}
 use Rattle.trees.proofs.Listings.{tree-listing}
 use Rattle.listings.specs.Operations.{listing-refusal}
-use Rattle.listings.proofs.ListingRefusal.{accepted-listing, rules-left}
-use Rattle.standard_listings.specs.Operations.{standardise-answer}
+use Rattle.listings.proofs.ListingRefusal.{accepted-listing}
 use Rattle.standard_listings.specs.inner.Standardising.{part, standard-first, standard-second, InOrder, AtNode}
 use Rattle.standard_listings.specs.inner.Standardising.{child-number, with-row, RowFits, SubtreeRowsFit}
 use Rattle.standard_listings.specs.inner.Standardising.{RowsWritten, SubtreeRowsWritten}
@@ -210,19 +207,3 @@ pub standard-end :
 standard-end n l out due room h e =
     let a = accepted-listing n l due room h in
     e ∙ rw (standard-length n l (a .count) (a .keeps))
-
-pub standard-written :
-    (n : ℕ) (l out : List ℕ) → listing-refusal n l (2 * (n - 2)) (length out) ≡ none
-    → written (standardise-answer n l (length out)) out ≡ standard n (tree-of n l) ++ drop (2 * (n - 2)) out
-unfolding standardise-answer
-standard-written n l out h = written-done _ _ out h ∙ sym (standard-end n l out _ _ h refl)
-
--- rows lent for the standard listing: there is room for it, and then it stands at their front
-pub rows-lent :
-    (n : ℕ) (l out : List ℕ) → IsLeafCount n → KeepsRules n l → length out ≡ most-numbers
-    → take (2 * (n - 2)) (written (standardise-answer n l (length out)) out) ≡ standard n (tree-of n l)
-rows-lent n l out c k e =
-    rw (standard-written n l out room) (take-at (standard n (tree-of n l)) _ (2 * (n - 2)) (standard-length n l c k))
-  where
-    room : listing-refusal n l (2 * (n - 2)) (length out) ≡ none
-    room = rules-left n l _ _ c (k .numbers) (omega (arith, c .1)) ∙ k .rules

@@ -12,8 +12,9 @@ use lib.ListN.{length, getD, take, drop, length-append, List·getD-append}
 use lib.Seq.{getD-append-add}
 use Rattle.base.specs.Lists.{tab, any-in, all-in}
 use Rattle.base.proofs.Bools.{never, is-false, or-left, or-right}
+use Rattle.base.proofs.Bits.{length-cells}
 use Rattle.base.proofs.Lists.{length-tab, getD-tab, any-append, any-tab-found, every-append, every-tab, flat-part}
-use Rattle.limits.specs.Limits.{most-leaves, IsLeafCount, set-bytes}
+use Rattle.limits.specs.Limits.{IsLeafCount, set-bytes}
 use Rattle.trees.specs.Trees.{Tree, leaf, node, LeafSet, leaves, IsTree, least, ordered}
 use Rattle.trees.specs.Listings.{subtree-at, standard}
 use Rattle.trees.specs.Edges.{edges, one-edge, is-edge}
@@ -268,13 +269,12 @@ module _ (n : ℕ) (count : IsLeafCount n) (T : Tree) (tree : IsTree n T) where
 
   -- The bytes that are written: a set for each split, and the bits of leaves from n on are 0.
   pub no-bits-beyond :
-      (k : ℕ) → k < n - 3 → (x : ℕ) → n ≤ x → x < most-leaves
+      (k : ℕ) → k < n - 3 → (x : ℕ) → n ≤ x → x < 8 * set-bytes
       → set-of (take set-bytes (drop (set-bytes * k) (split-bytes n T))) x ≡ false
   unfolding split-bytes splits
   no-bits-beyond k l x high lx =
-      let long : (e : LeafSet) → length (bytes-of e) ≡ set-bytes = λ e. unfold bytes-of in length-tab set-bytes _ in
       rw (
-        flat-part set-bytes bytes-of (λ x. false) long (splits n T) k (rw (splits-many n T) l),
+        flat-part set-bytes bytes-of (λ x. false) (length-cells 8 set-bytes) (splits n T) k (rw (splits-many n T) l),
         getD-tab (n - 3) (λ k. leaves (subtree-at n (standard n T) (n + k))) k (λ x. false) l,
         split-is k l,
         bytes-hold (leaves (node-at k)) x lx,

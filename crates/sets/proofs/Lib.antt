@@ -1,0 +1,2 @@
+pub mod WordSets
+pub mod SetLaws

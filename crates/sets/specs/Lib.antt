@@ -1,0 +1,3 @@
+pub mod Sets
+pub mod Words
+pub mod inner
