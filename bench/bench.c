@@ -1,9 +1,9 @@
 /* Measures every call of the part against plain C, and against the floor (its buffers read and written once); the
    rebuilds and the guess also against textbook neighbour joining, the table against counting quartets directly; import
    also with long texts. The calls of leaf sets have a table of their own, with plain C that goes byte by byte. Plain C
-   of the splits, of the table, of a poll, of the guess (plain_guess.c), of graft and prune (plain_graft.c), and of all
-   that judges names (plain_sheets.c), is of another algorithm. Where n leaves are said, a graft makes a tree of n
-   leaves and a prune is given one; the other tree has a leaf less.
+   of the splits, of the table, of a poll, of the guess (plain_guess.c), of graft and prune (plain_graft.c), of both
+   looks (plain_look.c), and of all that judges names (plain_sheets.c), is of another algorithm. Where n leaves are
+   said, a graft makes a tree of n leaves, a look is at one, and a prune is given one; the other tree has a leaf less.
    Each figure is a ratio of medians of rounds that take turns in this one run; no bare time is printed. With a file
    name it draws the growth of the calls with the number of leaves there, as an SVG. */
 #define _POSIX_C_SOURCE 200809L
@@ -26,7 +26,8 @@ static size_t n;
 static uint16_t listing[2 * MOST], standard[2 * MOST], merges[2 * MOST], joined[2 * MOST], question[4];
 static uint32_t table[MOST * MOST], cells[MOST * MOST], sixths[MOST * MOST], rough[MOST * MOST];
 static uint16_t fewer[2 * MOST], changed[2 * MOST];
-static uint32_t fewer_cells[MOST * MOST], changed_cells[MOST * MOST], drawn[DRAWN];
+static uint32_t fewer_cells[MOST * MOST], changed_cells[MOST * MOST], looked[MOST * MOST], drawn[DRAWN];
+static uint64_t totals[QUARTREE_EDGES(MOST)];
 static int64_t gaps[MOST * MOST];
 static uint8_t sets[QUARTREE_SET_BYTES * MOST], bytes[4 * MOST], sheet[QUARTREE_SHEET_MOST_BYTES];
 static uint8_t text[QUARTREE_TEXT_BYTES(MOST)], text_out[QUARTREE_TEXT_BYTES(MOST)], long_text[LONG];
@@ -106,16 +107,16 @@ static void merges_of_rows(void)
     merges[2 * (n - 2) + 1] = 1;
 }
 
-/* The table with every cell, and its mirror, off by up to OFF, and none below 0. */
-static void roughen(void)
+/* A table so many times, with every cell, and its mirror, off by up to OFF, and none below 0. */
+static void roughen(uint32_t times, const uint32_t *of, uint32_t *to)
 {
     uint32_t seed = (uint32_t)n;
     for (size_t i = 0; i < n; i++) {
-        rough[i * n + i] = 0;
+        to[i * n + i] = 0;
         for (size_t j = i + 1; j < n; j++) {
             seed = seed * 1664525u + 1013904223u;
-            const uint32_t moved = cells[i * n + j] + (seed >> 8) % (2 * OFF + 1);
-            rough[i * n + j] = rough[j * n + i] = moved < OFF ? 0 : moved - OFF;
+            const uint32_t moved = times * of[i * n + j] + (seed >> 8) % (2 * OFF + 1);
+            to[i * n + j] = to[j * n + i] = moved < OFF ? 0 : moved - OFF;
         }
     }
 }
@@ -216,6 +217,26 @@ static void change_alike(void)
 static size_t next_edge(void) { return 1 + drawn[turn++ % DRAWN] % QUARTREE_EDGES(n - 1); }
 static size_t next_leaf(void) { return drawn[turn++ % DRAWN] % n; }
 
+/* The looks at every edge of the tree to be grafted on, one by one and all at once, which both answer alike. The new
+   table is that of the tree grafted last, so many times and with every cell off; it is left for the looks. */
+static void look_alike(uint32_t poll)
+{
+    const size_t less = n - 1, rows = 2 * (less - 2), edges = QUARTREE_EDGES(less);
+    const uint32_t times = poll == QUARTREE_POLL ? 6 : 1;
+    uint64_t plain_totals[QUARTREE_EDGES(MOST)];
+    roughen(times, changed_cells, looked);
+    memset(totals, 0, sizeof totals);
+    if (quartree_look_all(less, poll, fewer, rows, fewer_cells, less * less, looked, n * n, totals, edges) != 0
+        || plain_look_all(less, times, fewer, fewer_cells, looked, plain_totals) != 0
+        || memcmp(totals, plain_totals, edges * sizeof *totals) != 0)
+        fail("plain C looks at all edges otherwise");
+    for (size_t edge = 1; edge <= edges; edge++)
+        if (quartree_look(less, poll, fewer, rows, fewer_cells, less * less, edge, looked, n * n)
+                != totals[edge - 1] << 8
+            || plain_look(less, times, fewer, fewer_cells, edge, looked) != totals[edge - 1] << 8)
+            fail("plain C looks at an edge otherwise");
+}
+
 /* A tree of this shape, and all that the calls take of it; what the part and plain C make of them is the same. */
 static void make(int shape)
 {
@@ -262,10 +283,13 @@ static void make(int shape)
     memset(standard, 0, sizeof standard);
     if (plain_rebuild(n, 1, cells, standard) != 0 || memcmp(standard, expected, size) != 0)
         fail("plain C rebuilds another tree");
-    roughen();
+    roughen(1, cells, rough);
     guess_alike(QUARTREE_COUNTS, rough, QUARTREE_GUESSED);
     guess_alike(QUARTREE_COUNTS, cells, QUARTREE_REBUILT);
     change_alike();
+    if (n <= 32)
+        look_alike(QUARTREE_POLL);
+    look_alike(QUARTREE_COUNTS);
     sheet_of_table();
     if (quartree_sheet_table(sheet, sheet_len, table, n * n) != 256 * n
         || memcmp(table, cells, n * n * sizeof *cells) != 0)
@@ -408,6 +432,30 @@ static void prune_plain(void)
     sink += plain_prune(n, listing, cells, next_leaf(), changed, changed_cells);
 }
 static void change_floor(void) { floor_of(cells, n * n * sizeof *cells, changed_cells, n * n * sizeof *cells); }
+static void look(void)
+{
+    const size_t less = n - 1;
+    sink += quartree_look(less, QUARTREE_COUNTS, fewer, 2 * (less - 2), fewer_cells, less * less, next_edge(), looked,
+                          n * n);
+}
+static void look_plain(void) { sink += plain_look(n - 1, 1, fewer, fewer_cells, next_edge(), looked); }
+static void look_floor(void)
+{
+    sink += read_once(fewer_cells, (n - 1) * (n - 1) * sizeof *fewer_cells);
+    floor_of(looked, n * n * sizeof *looked, NULL, 0);
+}
+static void look_all(void)
+{
+    const size_t less = n - 1;
+    sink += quartree_look_all(less, QUARTREE_COUNTS, fewer, 2 * (less - 2), fewer_cells, less * less, looked, n * n,
+                              totals, QUARTREE_EDGES(less));
+}
+static void look_all_plain(void) { sink += (uint64_t)plain_look_all(n - 1, 1, fewer, fewer_cells, looked, totals); }
+static void look_all_floor(void)
+{
+    sink += read_once(fewer_cells, (n - 1) * (n - 1) * sizeof *fewer_cells);
+    floor_of(looked, n * n * sizeof *looked, totals, QUARTREE_EDGES(n - 1) * sizeof *totals);
+}
 static void poll(void) { sink += quartree_poll(n, records, QUARTREE_POLL_RECORDS(n), table, n * n); }
 static void poll_plain(void) { sink += (uint64_t)plain_poll(n, &records[0].a, table); }
 static void poll_ties(void) { sink += quartree_poll(n, next_ties(), QUARTREE_POLL_RECORDS(n), table, n * n); }
@@ -456,7 +504,7 @@ static void join_of(const uint32_t *of)
 static void joining(void) { join_of(cells); }
 static void joining_rough(void) { join_of(rough); }
 
-enum { CALLS = 21 };
+enum { CALLS = 23 };
 static const struct {
     const char *name;
     size_t most; /* leaves */
@@ -475,6 +523,8 @@ static const struct {
     {"guess", 128, 8, guess, guess_plain, guess_floor},
     {"graft", 128, 40, graft, graft_plain, change_floor},
     {"prune", 128, 40, prune, prune_plain, change_floor},
+    {"look", 128, 40, look, look_plain, look_floor},
+    {"look_all", 128, 8, look_all, look_all_plain, look_all_floor},
     {"poll", 32, 20, poll, poll_plain, poll_floor},
     {"poll_ties", 32, 20, poll_ties, poll_ties_plain, poll_floor},
     {"rebuild_poll", 32, 40, rebuild_poll, rebuild_poll_plain, rebuild_floor},
@@ -862,12 +912,31 @@ static void print_guesses(void)
     printf("\n");
 }
 
+static void print_looks(void)
+{
+    printf("The looks before a graft: ours over plain C, at one edge and at all; and as many looks as there are edges\n"
+           "over one at all of them, ours and plain C's:\n\n");
+    printf("| tree | n | look | look_all | looks / look_all | looks / look_all, plain C |\n");
+    printf("|---|---|---|---|---|---|\n");
+    for (int shape = 0; shape < SHAPES; shape++)
+        for (int c = 0; c < COUNTS; c++) {
+            n = counts[c];
+            make(shape);
+            const double edges = (double)QUARTREE_EDGES(n - 1);
+            printf("| %s | %zu | %.2f | %.2f | %.1f | %.1f |\n", shapes[shape], n, ratio(look, look_plain, 40),
+                   ratio(look_all, look_all_plain, 8), edges * ratio(look, look_all, 8),
+                   edges * ratio(look_plain, look_all_plain, 8));
+            fflush(stdout);
+        }
+    printf("\n");
+}
+
 static void draw(const char *path, double grown[CALLS][COUNTS])
 {
     static const char *const colours[] = {"#1b6ca8", "#c0392b", "#2e8b57", "#8e44ad", "#7f8c1f", "#d81b60",
-                                          "#00897b", "#d68910", "#34495e"};
-    /* standardise, table, both rebuilds, guess, graft, prune, and of a sheet */
-    static const int lines[] = {1, 5, 7, 8, 9, 10, 11, 16, 18};
+                                          "#00897b", "#6d4c41", "#5e35b1", "#d68910", "#34495e"};
+    /* standardise, table, both rebuilds, guess, graft, prune, both looks, and of a sheet */
+    static const int lines[] = {1, 5, 7, 8, 9, 10, 11, 12, 13, 18, 20};
     FILE *f = fopen(path, "w");
     if (f == NULL)
         fail("the plot cannot be written");
@@ -899,6 +968,7 @@ int main(int argc, char **argv)
     print_against("Ours over the floor, its buffers read and written once:", 1);
     print_rebuilds();
     print_guesses();
+    print_looks();
     print_sets();
     print_texts();
     growth(grown);

@@ -35,6 +35,14 @@ uint64_t plain_graft(size_t n, const uint16_t *listing, const uint32_t *table, s
                      uint32_t *out_table);
 uint64_t plain_prune(size_t n, const uint16_t *listing, const uint32_t *table, size_t leaf, uint16_t *out,
                      uint32_t *out_table);
+/* The total gap that the tree would have to a new table, in which a tree's cell counts so many times, if leaf n were
+   grafted on an edge; and the same for every edge, written by the edges' numbers (plain_look.c). Checks 7, 8, then 4, 5
+   and 20 of the tree's table, then 4 and 5 of the new one. They are the fastest that were found, and write no table of
+   the grafted tree. The reply is the part's, 4, 5, 7 and 8 without a figure. */
+uint64_t plain_look(size_t n, uint32_t times, const uint16_t *listing, const uint32_t *table, size_t edge,
+                    const uint32_t *new_table);
+int plain_look_all(size_t n, uint32_t times, const uint16_t *listing, const uint32_t *table, const uint32_t *new_table,
+                   uint64_t *totals);
 /* Two leaf sets joined, intersected and compared: 2 and 3 judged, and the reply as the part's. By words of 64 bits
    (plain_sets.c); by a loop over the bytes (plain_bytes.c), as gcc -O2 makes it; and by the same loop, kept to one byte
    after the other. The idle ones do nothing: what they take is the call's own time. */

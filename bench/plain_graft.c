@@ -11,23 +11,20 @@
    under the node between the last leaf and this one are gone through, to the left and to the right. So a row is one
    loop over the leaves in their own order, and all else takes as many steps as the inner nodes have leaves together. A
    table that is lent is compared with the tree's own as that is counted; only one that differs is judged by 4 and 5. */
+#include "places.h"
 #include "plain.h"
 
-enum { MOST = 128, NUMBERS = 2 * MOST, NOT_OWN = 20, GRAFTED = 4, LANES = 4 };
+enum { GRAFTED = 4, LANES = 4 };
 
-static uint32_t pairs(size_t k) { return (uint32_t)(k * (k - 1) / 2); }
-
-/* Whether some cell of a row differs from what it has to be. */
-static int differs(size_t n, const uint32_t *restrict cells, const uint32_t *restrict row, uint32_t more)
+int plain_row_differs(size_t n, const uint32_t *restrict cells, const uint32_t *restrict row, uint32_t more)
 {
-    uint32_t off[LANES] = {0};
-    size_t j = 0;
-    for (; j + LANES <= n; j += LANES)
-        for (size_t lane = 0; lane < LANES; lane++)
-            off[lane] |= cells[j + lane] ^ (row[j + lane] + more);
-    for (; j < n; j++)
-        off[0] |= cells[j] ^ (row[j] + more);
-    return (off[0] | off[1] | off[2] | off[3]) != 0;
+    const size_t fours = n / LANES * LANES; /* so that the loop is made of vector instructions */
+    uint32_t off = 0;
+    for (size_t j = 0; j < fours; j++)
+        off |= cells[j] ^ (row[j] + more);
+    for (size_t j = fours; j < n; j++)
+        off |= cells[j] ^ (row[j] + more);
+    return off != 0;
 }
 
 static void write_row(size_t n, uint32_t *restrict cells, const uint32_t *restrict row, uint32_t more)
@@ -40,72 +37,73 @@ static void write_row(size_t n, uint32_t *restrict cells, const uint32_t *restri
         cells[j] = row[j] + more;
 }
 
-/* The tree's table: written, or, where `out` is null, compared with the one lent. Whether that differs. */
-static int count(size_t n, const uint16_t *listing, const uint32_t *table, uint32_t *out)
+void plain_places(size_t n, const uint16_t *listing, places *w)
 {
     const size_t last = 2 * n - 3;
-    uint32_t d[NUMBERS], row[MOST], d_at[MOST]; /* d_at: by place */
-    uint8_t size[NUMBERS], place[NUMBERS], level[NUMBERS], order[MOST];
-    uint32_t meet[MOST];       /* of the node between a place and the one before it, */
-    uint8_t between[MOST + 1]; /* and its level; 0 where there is none */
+    uint8_t level[NUMBERS];
     for (size_t i = 0; i < n; i++)
-        size[i] = 1;
+        w->size[i] = 1;
     for (size_t k = 0; k < n - 2; k++)
-        size[n + k] = (uint8_t)(size[listing[2 * k]] + size[listing[2 * k + 1]]);
-    d[0] = d[last] = meet[1] = 0;
-    place[0] = between[1] = between[n] = 0;
-    place[last] = level[last] = 1;
+        w->size[n + k] = (uint8_t)(w->size[listing[2 * k]] + w->size[listing[2 * k + 1]]);
+    w->d[0] = w->d[last] = w->of.meet[1] = 0;
+    w->place[0] = w->between[1] = w->between[n] = 0;
+    w->place[last] = level[last] = 1;
     for (size_t k = n - 2; k-- > 0;) {
         const size_t v = n + k, a = listing[2 * k], b = listing[2 * k + 1];
-        d[a] = d[v] + pairs(size[b]);
-        d[b] = d[v] + pairs(size[a]);
-        place[a] = place[v];
-        place[b] = (uint8_t)(place[v] + size[a]);
+        w->d[a] = w->d[v] + pairs(w->size[b]);
+        w->d[b] = w->d[v] + pairs(w->size[a]);
+        w->place[a] = w->place[v];
+        w->place[b] = (uint8_t)(w->place[v] + w->size[a]);
         level[a] = level[b] = (uint8_t)(level[v] + 1);
-        between[place[b]] = level[v];
-        meet[place[b]] = pairs(n - size[v]) - d[a] - d[b];
+        w->between[w->place[b]] = level[v];
+        w->of.meet[w->place[b]] = pairs(n - w->size[v]) - w->d[a] - w->d[b];
     }
     for (size_t i = 0; i < n; i++) {
-        order[place[i]] = (uint8_t)i;
-        d_at[place[i]] = d[i];
+        w->order[w->place[i]] = (uint8_t)i;
+        w->of.d_at[w->place[i]] = w->d[i];
     }
+}
+
+/* The tree's table: written, or, where `out` is null, compared with the one lent. Whether that differs. */
+static int count(size_t n, const places *w, const uint32_t *table, uint32_t *out)
+{
+    uint32_t row[MOST];
     if (out != NULL)
-        write_row(n, out, d, 0);
-    else if (differs(n, table, d, 0))
+        write_row(n, out, w->d, 0);
+    else if (plain_row_differs(n, table, w->d, 0))
         return 1;
     row[0] = 0;
     for (size_t p = 1; p < n; p++) {
-        const size_t i = order[p], here = between[p];
-        uint32_t above = meet[p];
-        for (size_t t = p - 1; t > 0; t--) {
-            row[order[t]] = above + d_at[t];
-            if (between[t] <= here)
-                break;
-        }
-        size_t least = MOST;
-        for (size_t t = p + 1; between[t] > here; t++) {
-            if (between[t] < least) {
-                least = between[t];
-                above = meet[t];
-            }
-            row[order[t]] = above + d_at[t];
-        }
-        row[i] = 0 - d[i]; /* the diagonal is 0 */
+        const size_t i = w->order[p];
+        next_rows(w, p, row, NULL, NULL);
         if (out != NULL)
-            write_row(n, out + i * n, row, d[i]);
-        else if (differs(n, table + i * n, row, d[i]))
+            write_row(n, out + i * n, row, w->d[i]);
+        else if (plain_row_differs(n, table + i * n, row, w->d[i]))
             return 1;
     }
     return 0;
 }
 
-/* 0, or 4, 5 or 20; whether the edge or the leaf is there is said. */
-static int judge(size_t n, const uint16_t *listing, const uint32_t *table, int there)
+static void write_table(size_t n, const uint16_t *listing, uint32_t *out)
 {
-    if (!count(n, listing, table, NULL))
+    places w;
+    plain_places(n, listing, &w);
+    count(n, &w, NULL, out);
+}
+
+int plain_judge(size_t n, const places *w, const uint32_t *table, int there)
+{
+    if (!count(n, w, table, NULL))
         return there ? 0 : NOT_OWN;
     const int wrong = plain_wrong_table(n, table);
     return wrong ? wrong : NOT_OWN;
+}
+
+static int judge(size_t n, const uint16_t *listing, const uint32_t *table, int there)
+{
+    places w;
+    plain_places(n, listing, &w);
+    return plain_judge(n, &w, table, there);
 }
 
 /* The row, in post-order, that follows those of the subtree under an edge; the edge is the child at this place. */
@@ -144,7 +142,7 @@ uint64_t plain_graft(size_t n, const uint16_t *listing, const uint32_t *table, s
         out[place + 2] = (uint16_t)(n + 1 + behind);
     out[2 * behind] = (uint16_t)(edge < n ? edge : edge + 1);
     out[2 * behind + 1] = (uint16_t)n;
-    count(n + 1, out, NULL, out_table);
+    write_table(n + 1, out, out_table);
     return 256 * GRAFTED;
 }
 
@@ -176,6 +174,6 @@ uint64_t plain_prune(size_t n, const uint16_t *listing, const uint32_t *table, s
         rows[2 * put + 1] = under;
     }
     plain_standardise(n - 1, rows, out);
-    count(n - 1, out, NULL, out_table);
+    write_table(n - 1, out, out_table);
     return 256 * GRAFTED;
 }

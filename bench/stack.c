@@ -3,7 +3,7 @@
    A call runs on a thread whose stack was filled with a pattern, and the bytes that have lost it are counted, less
    those of a thread that calls nothing. Every call is made with trees of several shapes, and with every fault that it
    can be refused for; what is printed is the most that it took. A poll and its table have 32 leaves, and a tree that is
-   grafted on has one leaf less than the most. */
+   grafted on or looked at has one leaf less than the most, or than the poll. */
 #define _POSIX_C_SOURCE 200809L
 #include "../include/quartree.h"
 #include <pthread.h>
@@ -11,13 +11,17 @@
 #include <stdlib.h>
 #include <string.h>
 
-enum { N = QUARTREE_MOST_LEAVES, FEWER = N - 1, POLL = QUARTREE_POLL_MOST_LEAVES, STACK = 1 << 20, PATTERN = 0xA5 };
+enum { N = QUARTREE_MOST_LEAVES, FEWER = N - 1, POLL = QUARTREE_POLL_MOST_LEAVES, POLL_FEWER = POLL - 1 };
+enum { STACK = 1 << 20, PATTERN = 0xA5 };
 
 static uint16_t listing[QUARTREE_LISTING_NUMBERS(N)], standard[QUARTREE_LISTING_NUMBERS(N)];
 static uint16_t merges[QUARTREE_MERGE_NUMBERS(N)], question[4];
 static uint32_t own_table[N * N], table[N * N], table_out[N * N], sums[POLL * POLL];
 static uint16_t fewer_listing[QUARTREE_LISTING_NUMBERS(FEWER)];
 static uint32_t fewer_table[FEWER * FEWER];
+static uint16_t poll_fewer_listing[QUARTREE_LISTING_NUMBERS(POLL_FEWER)];
+static uint32_t poll_fewer_table[POLL_FEWER * POLL_FEWER];
+static uint64_t totals[QUARTREE_EDGES(FEWER)];
 static int64_t gaps[N * N];
 static uint8_t sets[QUARTREE_SPLIT_BYTES(N)], bytes[QUARTREE_LISTING_BYTES(N)], sheet[QUARTREE_SHEET_MOST_BYTES + 1];
 static uint8_t text[QUARTREE_TEXT_BYTES(N)], text_out[QUARTREE_TEXT_BYTES(N)];
@@ -78,6 +82,16 @@ static void graft(void)
     reply = quartree_graft(fewer_leaves, fewer_listing, fewer_numbers, fewer_table, fewer_cells, edge, standard,
                            of(QUARTREE_LISTING_NUMBERS(N)), table_out, of(N * N));
 }
+static void look(void)
+{
+    reply = quartree_look(fewer_leaves, QUARTREE_COUNTS, fewer_listing, fewer_numbers, fewer_table, fewer_cells, edge,
+                          table, cells);
+}
+static void look_all(void)
+{
+    reply = quartree_look_all(fewer_leaves, QUARTREE_COUNTS, fewer_listing, fewer_numbers, fewer_table, fewer_cells,
+                              table, cells, totals, of(QUARTREE_EDGES(FEWER)));
+}
 static void prune_of(size_t pruned)
 {
     reply = quartree_prune(leaves, listing, numbers, table, cells, pruned, standard,
@@ -109,6 +123,18 @@ static void guided_of_poll(void)
     reply = quartree_rebuild_guided(poll_leaves, QUARTREE_POLL, sums, POLL * POLL, comb_merges,
                                     QUARTREE_MERGE_NUMBERS(POLL), standard, of(QUARTREE_LISTING_NUMBERS(POLL)));
 }
+static void look_at_poll(void)
+{
+    reply = quartree_look(poll_leaves - 1, QUARTREE_POLL, poll_fewer_listing, QUARTREE_LISTING_NUMBERS(POLL_FEWER),
+                          poll_fewer_table, POLL_FEWER * POLL_FEWER,
+                          edge <= QUARTREE_EDGES(FEWER) ? QUARTREE_EDGES(POLL_FEWER) : edge, sums, POLL * POLL);
+}
+static void look_all_at_poll(void)
+{
+    reply = quartree_look_all(poll_leaves - 1, QUARTREE_POLL, poll_fewer_listing, QUARTREE_LISTING_NUMBERS(POLL_FEWER),
+                              poll_fewer_table, POLL_FEWER * POLL_FEWER, sums, POLL * POLL, totals,
+                              of(QUARTREE_EDGES(POLL_FEWER)));
+}
 static void check_sheet(void) { reply = quartree_check_sheet(sheet, sheet_len); }
 static void sheet_table(void) { reply = quartree_sheet_table(sheet, sheet_len, table_out, of(N * N)); }
 static void sheet_name(void) { reply = quartree_sheet_name(sheet, sheet_len, leaf); }
@@ -130,12 +156,13 @@ static const struct {
     {"check", check, 0}, {"standardise", standardise, 0}, {"restandardise", restandardise, 0}, {"splits", splits, 0},
     {"pairing", pairing, 0}, {"set_join", set_join, 0}, {"set_intersect", set_intersect, 0},
     {"set_equal", set_equal, 0}, {"table", write_table, 0}, {"gap", gap, 0}, {"rebuild", rebuild, 0},
-    {"rebuild_guided", guided, 0}, {"guess", guess, 1}, {"graft", graft, 0}, {"prune", prune, 0},
-    {"prune of leaf 0", prune_first, 0}, {"poll", poll, 0}, {"gap of a poll", gap_of_poll, 0},
-    {"rebuild of a poll", rebuild_of_poll, 0}, {"rebuild_guided of a poll", guided_of_poll, 0},
-    {"guess of a poll", guess_of_poll, 1}, {"check_sheet", check_sheet, 0}, {"sheet_table", sheet_table, 0},
-    {"sheet_name", sheet_name, 0}, {"rebuild_sheet", rebuild_sheet, 0}, {"export", write_text, 0},
-    {"import", read_text, 0},
+    {"rebuild_guided", guided, 0}, {"guess", guess, 1}, {"graft", graft, 0}, {"look", look, 0},
+    {"look_all", look_all, 0}, {"prune", prune, 0}, {"prune of leaf 0", prune_first, 0}, {"poll", poll, 0},
+    {"gap of a poll", gap_of_poll, 0}, {"rebuild of a poll", rebuild_of_poll, 0},
+    {"rebuild_guided of a poll", guided_of_poll, 0}, {"guess of a poll", guess_of_poll, 1},
+    {"look at a poll", look_at_poll, 0}, {"look_all at a poll", look_all_at_poll, 0}, {"check_sheet", check_sheet, 0},
+    {"sheet_table", sheet_table, 0}, {"sheet_name", sheet_name, 0}, {"rebuild_sheet", rebuild_sheet, 0},
+    {"export", write_text, 0}, {"import", read_text, 0},
 };
 enum { CALLS = sizeof calls / sizeof *calls };
 
@@ -249,6 +276,7 @@ static void fill_poll(void)
 
 static void fill(int shape, size_t turned)
 {
+    fill_tree(shape, turned, POLL_FEWER, poll_fewer_listing, merges, poll_fewer_table);
     fill_tree(shape, turned, FEWER, fewer_listing, merges, fewer_table);
     fill_tree(shape, turned, N, listing, merges, own_table);
     memcpy(table, own_table, sizeof table);
@@ -293,10 +321,17 @@ static void input_short(void)
     set_len--;
 }
 static void room_short(void) { room = 1; }
-static void diagonal_filled(void) { table[N * N - 1] = fewer_table[FEWER * FEWER - 1] = 1; }
+/* Where a tree of fewer leaves is looked at, these are faults of the new table alone. */
+static void new_diagonal_filled(void) { table[N * N - 1] = 1; }
+static void new_halves_unequal(void) { table[N * N - N - 1]++; }
+static void diagonal_filled(void)
+{
+    new_diagonal_filled();
+    fewer_table[FEWER * FEWER - 1] = 1;
+}
 static void halves_unequal(void)
 {
-    table[N * N - N - 1]++;
+    new_halves_unequal();
     fewer_table[FEWER * FEWER - FEWER - 1]++;
 }
 static void table_of_zeros(void)
@@ -361,10 +396,11 @@ static void node_of_one_part(void)
 static void name_unknown(void) { text[1] = 'x'; }
 
 static void (*const faults[])(void) = {
-    none, too_many_leaves, input_short, room_short, diagonal_filled, halves_unequal, table_of_zeros, one_cell_wrong,
-    any_table, child_not_allowed, child_again, leaf_not_there, record_not_due, code_above_6, ties, first_proposal_stops,
-    middle_proposal_stops, last_proposal_stops, other_ending, offset_too_great, bad_byte_in_last_name, last_name_again,
-    text_stops, brackets_alone, node_of_one_part, name_unknown,
+    none, too_many_leaves, input_short, room_short, diagonal_filled, halves_unequal, new_diagonal_filled,
+    new_halves_unequal, table_of_zeros, one_cell_wrong, any_table, child_not_allowed, child_again, leaf_not_there,
+    record_not_due, code_above_6, ties, first_proposal_stops, middle_proposal_stops, last_proposal_stops, other_ending,
+    offset_too_great, bad_byte_in_last_name, last_name_again, text_stops, brackets_alone, node_of_one_part,
+    name_unknown,
 };
 enum { FAULTS = sizeof faults / sizeof *faults };
 

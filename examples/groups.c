@@ -7,6 +7,7 @@
    both, so that their intersection is empty. */
 
 #include "quartree.h"
+#include "replies.h"
 #include "sheet_file.h"
 #include <stdio.h>
 #include <string.h>
@@ -29,17 +30,6 @@ static size_t sheet_len, n;
 static uint32_t table[CELLS];
 static struct tree of_sheet = {.name = "sheet"}, of_text = {.name = "text"};
 
-/* A refusal ends the program. */
-static uint64_t accepted(uint64_t reply)
-{
-    unsigned number = QUARTREE_NUMBER(reply);
-    if (number != QUARTREE_ACCEPTED) {
-        printf("refused %u: %s\n", number, quartree_refusal_text(number));
-        exit(2);
-    }
-    return QUARTREE_FIGURE(reply);
-}
-
 static void list_splits(struct tree *tree)
 {
     accepted(quartree_splits(n, tree->listing, QUARTREE_LISTING_NUMBERS(n), tree->splits, sizeof tree->splits));
@@ -48,7 +38,10 @@ static void list_splits(struct tree *tree)
 /* The splits stand one after the other. */
 static const uint8_t *split(const struct tree *tree, size_t k) { return tree->splits + SET * k; }
 
-static int equal(const uint8_t *a, const uint8_t *b) { return accepted(quartree_set_equal(a, SET, b, SET)) == 1; }
+static int equal(const uint8_t *a, const uint8_t *b)
+{
+    return QUARTREE_FIGURE(accepted(quartree_set_equal(a, SET, b, SET))) == 1;
+}
 
 /* The results go to sets of their own: an output overlaps no input. */
 static int fit(const uint8_t *a, const uint8_t *b)
@@ -74,8 +67,8 @@ static void print_set(const char *what, const uint8_t *set)
     printf("%s:", what);
     for (size_t leaf = 0; leaf < n; leaf++)
         if (set[leaf / 8] >> leaf % 8 & 1) {
-            uint64_t name = quartree_sheet_name(sheet, sheet_len, leaf);
-            printf(" %.*s", (int)QUARTREE_FIGURE_Y(name), (const char *)sheet + QUARTREE_FIGURE_X(name));
+            printf(" ");
+            print_strain(sheet, sheet_len, leaf);
         }
     printf("\n");
 }
@@ -100,7 +93,7 @@ int main(int argc, char **argv)
         return 3;
     }
     sheet_len = read_sheet(argv[1], sheet);
-    n = (size_t)accepted(quartree_sheet_table(sheet, sheet_len, table, CELLS));
+    n = (size_t)QUARTREE_FIGURE(accepted(quartree_sheet_table(sheet, sheet_len, table, CELLS)));
     accepted(quartree_rebuild(n, QUARTREE_COUNTS, table, QUARTREE_TABLE_CELLS(n), of_sheet.listing, NUMBERS));
     accepted(quartree_import(sheet, sheet_len, (const uint8_t *)argv[2], strlen(argv[2]), of_text.listing, NUMBERS));
     list_splits(&of_sheet);

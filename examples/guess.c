@@ -9,6 +9,7 @@
    A thread that calls quartree_guess needs QUARTREE_GUESS_STACK_BYTES of stack, which main's has. */
 
 #include "quartree.h"
+#include "replies.h"
 #include "sheet_file.h"
 #include "tree_record.h"
 #include <stdio.h>
@@ -22,23 +23,6 @@ static uint32_t table[CELLS];
 static int64_t gaps[CELLS];
 static struct tree_record tree;
 
-/* A refusal ends the program. */
-static uint64_t accepted(uint64_t reply)
-{
-    unsigned number = QUARTREE_NUMBER(reply);
-    if (number != QUARTREE_ACCEPTED) {
-        printf("refused %u: %s\n", number, quartree_refusal_text(number));
-        exit(2);
-    }
-    return reply;
-}
-
-static void print_strain(size_t leaf)
-{
-    uint64_t name = accepted(quartree_sheet_name(sheet, sheet_len, leaf));
-    printf("%.*s", (int)QUARTREE_FIGURE_Y(name), (const char *)sheet + QUARTREE_FIGURE_X(name));
-}
-
 /* Prints the pairs of strains that are furthest off, and by how much the table is above or below the tree there. */
 static void print_furthest(size_t n)
 {
@@ -50,9 +34,9 @@ static void print_furthest(size_t n)
     for (size_t i = 0; i < n; i++)
         for (size_t j = i + 1; j < n; j++)
             if (llabs(gaps[n * i + j]) == most) {
-                print_strain(i);
+                print_strain(sheet, sheet_len, i);
                 printf(" and ");
-                print_strain(j);
+                print_strain(sheet, sheet_len, j);
                 printf(" are off by %+lld\n", (long long)gaps[n * i + j]);
             }
 }

@@ -90,6 +90,12 @@ size_t draw_poll_leaf_count(struct source *source)
     return refused[below(source, LENGTH(refused))];
 }
 
+size_t draw_look_leaf_count(struct source *source, uint32_t word, bool all)
+{
+    size_t n = word == QUARTREE_COUNTS ? draw_leaf_count(source) : draw_poll_leaf_count(source) - 1;
+    return all && n > 32 && n < QUARTREE_MOST_LEAVES ? 3 + n % 29 : n;
+}
+
 uint32_t draw_word(struct source *source)
 {
     static const uint32_t polls[] = {QUARTREE_POLL, 2, 6, 256, 65536, (uint32_t)1 << 31, UINT32_MAX};
@@ -338,6 +344,21 @@ void merges_of_listing(size_t n, const uint16_t *listing, uint16_t *merges)
     }
     merges[QUARTREE_LISTING_NUMBERS(n)] = 0;
     merges[QUARTREE_LISTING_NUMBERS(n) + 1] = leaf_of[2 * n - 3];
+}
+
+/* Each subtree but the whole is merged in one step; a merge with leaf n goes before that. */
+void graft_merges(struct source *source, size_t n, uint16_t *merges)
+{
+    size_t place;
+    if (!fitted(n) || take(source) >= 200) {
+        draw_merges(source, n + 1, merges);
+        return;
+    }
+    place = below(source, QUARTREE_MERGE_NUMBERS(n));
+    uint16_t leaf = merges[place], *step = merges + place / 2 * 2;
+    memmove(step + 2, step, (QUARTREE_MERGE_NUMBERS(n) - place / 2 * 2) * sizeof *merges);
+    step[0] = leaf;
+    step[1] = (uint16_t)n;
 }
 
 static uint32_t pairs_of(size_t k)

@@ -40,6 +40,10 @@ size_t below(struct source *source, size_t bound);
 size_t draw_leaf_count(struct source *source);
 size_t draw_poll_leaf_count(struct source *source);
 
+/* The leaf count of a tree that is looked at for a new table, by the word for this; a smaller one where all edges are
+   looked at, since the reference counts a table for each. */
+size_t draw_look_leaf_count(struct source *source, uint32_t word, bool all);
+
 /* The caller's word for a table: mostly that it is one of counts, else any number. */
 uint32_t draw_word(struct source *source);
 
@@ -55,6 +59,9 @@ void draw_listing(struct source *source, size_t n, uint16_t *listing);
 void draw_merges(struct source *source, size_t n, uint16_t *merges);
 void merges_of_listing(size_t n, const uint16_t *listing, uint16_t *merges);
 void table_of_merges(size_t n, const uint16_t *merges, uint32_t *table);
+
+/* The merges of n leaves become those of n + 1: mostly leaf n is put on an edge of their tree, else they are others. */
+void graft_merges(struct source *source, size_t n, uint16_t *merges);
 
 /* Makes a table six times as large where the word for it is that it is a poll's; seldom where it is not. */
 void scale_table(struct source *source, size_t n, uint32_t word, uint32_t *table);

@@ -13,6 +13,8 @@ mod chance;
 mod graft;
 #[path = "../reference/src/guess.rs"]
 mod guess;
+#[path = "../reference/src/look.rs"]
+mod look;
 #[path = "../reference/src/merge.rs"]
 mod merge;
 #[path = "../reference/src/newick.rs"]

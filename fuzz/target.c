@@ -17,13 +17,13 @@
 enum entry {
     CHECK, STANDARDISE, SPLITS, PAIRING, TABLE, GAP, REBUILD, REBUILD_GUIDED, POLL, SHEET_TABLE, SHEET_NAME,
     REBUILD_SHEET, CHECK_SHEET, EXPORT, IMPORT, RESTANDARDISE, GUESS, GRAFT, PRUNE, SET_JOIN, SET_INTERSECT, SET_EQUAL,
-    ENTRIES
+    LOOK, LOOK_ALL, ENTRIES
 };
 
 static const char *const entry_name[ENTRIES] = {
     "check", "standardise", "splits", "pairing", "table", "gap", "rebuild", "rebuild_guided", "poll", "sheet_table",
     "sheet_name", "rebuild_sheet", "check_sheet", "export", "import", "restandardise", "guess", "graft", "prune",
-    "set_join", "set_intersect", "set_equal"
+    "set_join", "set_intersect", "set_equal", "look", "look_all"
 };
 
 /* The reference's entries take what the archive's take. */
@@ -49,6 +49,8 @@ extern __typeof__(quartree_prune) reference_prune;
 extern __typeof__(quartree_set_join) reference_set_join;
 extern __typeof__(quartree_set_intersect) reference_set_intersect;
 extern __typeof__(quartree_set_equal) reference_set_equal;
+extern __typeof__(quartree_look) reference_look;
+extern __typeof__(quartree_look_all) reference_look_all;
 
 /* A call: the numbers it is given, and the buffers it is lent, inputs in the order of its arguments and then the
    outputs; but the text of an import, which may be all bytes that are left, is the last. Of a sheet, n is what its
@@ -130,9 +132,9 @@ static size_t read_word_and_count(struct source *source, struct call *call)
     return call->n;
 }
 
-/* A listing and a table. */
+/* A listing and a table, with the merges that the table comes from. */
 struct kept {
-    uint16_t listing[MOST_NUMBERS];
+    uint16_t listing[MOST_NUMBERS], merges[MOST_NUMBERS];
     uint32_t table[MOST_CELLS];
     size_t len, cells;
 };
@@ -140,13 +142,12 @@ struct kept {
 /* Draws them, of one tree in so many cases of 256, else of two. */
 static void read_kept(struct source *source, const struct call *call, unsigned of_one, struct kept *kept)
 {
-    static uint16_t merges[MOST_NUMBERS];
     draw_listing(source, call->n, kept->listing);
     if (take(source) < of_one)
-        merges_of_listing(call->n, kept->listing, merges);
+        merges_of_listing(call->n, kept->listing, kept->merges);
     else
-        draw_merges(source, call->n, merges);
-    table_of_merges(call->n, merges, kept->table);
+        draw_merges(source, call->n, kept->merges);
+    table_of_merges(call->n, kept->merges, kept->table);
     scale_table(source, call->n, call->word, kept->table);
     kept->cells = damage_table(source, call->n, kept->table);
     kept->len = damage_listing(source, call->n, kept->listing);
@@ -174,6 +175,29 @@ static void read_change_call(struct source *source, struct call *call)
     lend_next(call, "table", kept.table, sizeof *kept.table, kept.cells);
     lend_output(source, call, sizeof(uint16_t), result_of(n, QUARTREE_LISTING_NUMBERS(result)));
     lend_output(source, call, sizeof(uint32_t), result_of(n, QUARTREE_TABLE_CELLS(result)));
+}
+
+/* look, look_all. The table kept is drawn as one of counts, whatever the word for the new table is. */
+static void read_look_call(struct source *source, struct call *call)
+{
+    static struct kept kept;
+    static uint32_t new_table[MOST_CELLS];
+    uint32_t word = draw_word(source);
+    size_t n = call->n = draw_look_leaf_count(source, word, call->entry == LOOK_ALL), new_cells;
+    read_kept(source, call, 240, &kept);
+    call->word = word;
+    graft_merges(source, n, kept.merges);
+    table_of_merges(n + 1, kept.merges, new_table);
+    scale_table(source, n + 1, word, new_table);
+    roughen_table(source, n + 1, new_table);
+    new_cells = damage_table(source, n + 1, new_table);
+    lend_next(call, "listing", kept.listing, sizeof *kept.listing, kept.len);
+    lend_next(call, "table", kept.table, sizeof *kept.table, kept.cells);
+    lend_next(call, "new table", new_table, sizeof *new_table, new_cells);
+    if (call->entry == LOOK)
+        call->named = draw_edge(source, result_of(n, n));
+    else
+        lend_output(source, call, sizeof(uint64_t), result_of(n, QUARTREE_EDGES(n)));
 }
 
 /* rebuild, rebuild_guided, guess */
@@ -287,6 +311,10 @@ static void read_call(struct source *source, struct call *call)
     case PRUNE:
         read_change_call(source, call);
         break;
+    case LOOK:
+    case LOOK_ALL:
+        read_look_call(source, call);
+        break;
     case POLL:
         read_poll_call(source, call);
         break;
@@ -363,6 +391,10 @@ static uint64_t make_call(const struct call *call, enum taker taker)
         return ASK(set_intersect, LENT(0), LENT(1), LENT(2));
     case SET_EQUAL:
         return ASK(set_equal, LENT(0), LENT(1));
+    case LOOK:
+        return ASK(look, call->n, call->word, LENT(0), LENT(1), call->named, LENT(2));
+    case LOOK_ALL:
+        return ASK(look_all, call->n, call->word, LENT(0), LENT(1), LENT(2), LENT(3));
     default:
         return ASK(check_sheet, LENT(0));
     }
@@ -373,9 +405,10 @@ static void print_call(const struct call *call)
     printf("call: quartree_%s, n = %zu", entry_name[call->entry], call->n);
     if (call->entry == SHEET_NAME || call->entry == PRUNE)
         printf(", leaf = %zu", call->named);
-    if (call->entry == GRAFT)
+    if (call->entry == GRAFT || call->entry == LOOK)
         printf(", edge = %zu", call->named);
-    if (call->entry == GAP || call->entry == REBUILD || call->entry == REBUILD_GUIDED || call->entry == GUESS)
+    if (call->entry == GAP || call->entry == REBUILD || call->entry == REBUILD_GUIDED || call->entry == GUESS
+        || call->entry == LOOK || call->entry == LOOK_ALL)
         printf(", poll = %" PRIu32, call->word);
     if (call->entry == RESTANDARDISE)
         printf(", origin = %" PRIu32, call->origin);

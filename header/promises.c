@@ -2,12 +2,12 @@
    once more, as the scope has them, and every call is made through the header.
 
    Each call is accepted at its least leaf count, at 5 and at its most, with lengths that the macros say; a call that
-   takes a table with one of counts and with a poll's, and the guess besides with tables that no tree has; a graft and a
-   prune besides at every edge and leaf of trees by chance; a call that takes leaf sets besides with every two bits, and
-   with the splits of trees by chance. At 5 leaves it is refused in every way that its comment names: by one fault
-   alone, and by that fault with all that are judged after it. An accepted call has to write its result and nothing
-   else; a refused one nothing. The tree is a comb: at 5 leaves that of the scope's sheet and text. It is C and C++. The
-   first claim that fails is printed and ends the program. */
+   takes a table with one of counts and with a poll's, and the guess besides with tables that no tree has; a graft, a
+   prune and a look besides at every edge and leaf of trees by chance; a call that takes leaf sets besides with every
+   two bits, and with the splits of trees by chance. At 5 leaves it is refused in every way that its comment names: by
+   one fault alone, and by that fault with all that are judged after it. An accepted call has to write its result and
+   nothing else; a refused one nothing. The tree is a comb: at 5 leaves that of the scope's sheet and text. It is C and
+   C++. The first claim that fails is printed and ends the program. */
 #include "quartree.h"
 #include "quartree.h"
 #include <stdio.h>
@@ -88,7 +88,7 @@ enum { ORIGINS = 5 };
 /* Every buffer, one element longer than it ever has to be, so that one that is too long can be lent. */
 struct lent {
     uint16_t listing[QUARTREE_LISTING_NUMBERS(128) + 1], question[5], merges[QUARTREE_MERGE_NUMBERS(128) + 1];
-    uint32_t table[QUARTREE_TABLE_CELLS(128) + 1];
+    uint32_t table[QUARTREE_TABLE_CELLS(128) + 1], new_table[QUARTREE_TABLE_CELLS(128) + 1];
     struct quartree_record records[QUARTREE_POLL_RECORDS(32) + 1];
     uint8_t sheet[QUARTREE_SHEET_MOST_BYTES + 1], text[QUARTREE_TEXT_BYTES(128) + 1];
     uint8_t a[QUARTREE_SET_BYTES + 1], b[QUARTREE_SET_BYTES + 1];
@@ -97,6 +97,7 @@ struct lent {
         uint16_t numbers[QUARTREE_LISTING_NUMBERS(128) + 1];
         uint32_t cells[QUARTREE_TABLE_CELLS(128) + 1];
         int64_t gaps[QUARTREE_TABLE_CELLS(128) + 1];
+        uint64_t totals[QUARTREE_EDGES(127) + 1];
     } out;
     uint32_t out_table[QUARTREE_TABLE_CELLS(128) + 1];
 };
@@ -104,9 +105,9 @@ struct lent {
 static struct lent lent, before;
 
 /* The numbers that go with them: leaf count, word for the table, a record's origin, lengths, room, and the leaf that is
-   asked for or pruned and the edge that is grafted on. */
+   asked for or pruned and the edge that is grafted on or looked at. */
 static uint32_t word, origin;
-static size_t n, listing_len, question_len, cells, merges_len, count, sheet_len, text_len, a_len, b_len;
+static size_t n, listing_len, question_len, cells, new_cells, merges_len, count, sheet_len, text_len, a_len, b_len;
 static size_t room, table_room, leaf, edge;
 
 /* The results that are due. No gap is left between a tree and its own table. A graft and a prune have a tree and a
@@ -116,6 +117,7 @@ static uint32_t changed_table[QUARTREE_TABLE_CELLS(128)];
 static uint8_t splits[QUARTREE_SPLIT_BYTES(128)], listing_bytes_due[QUARTREE_LISTING_BYTES(128)];
 static uint8_t text[QUARTREE_TEXT_BYTES(128)], joined[QUARTREE_SET_BYTES], common[QUARTREE_SET_BYTES];
 static uint32_t table[QUARTREE_TABLE_CELLS(128)], sixths[QUARTREE_TABLE_CELLS(128)];
+static uint64_t totals[QUARTREE_EDGES(127)];
 static const int64_t gaps[QUARTREE_TABLE_CELLS(128)] = {0};
 
 /* The scope's sheet of five strains, and the standard listing of its tree. */
@@ -277,6 +279,7 @@ static void fill(size_t leaves)
     listing_len = QUARTREE_LISTING_NUMBERS(leaves);
     question_len = 4;
     cells = QUARTREE_TABLE_CELLS(leaves);
+    new_cells = QUARTREE_TABLE_CELLS(leaves + 1);
     merges_len = QUARTREE_MERGE_NUMBERS(leaves);
     count = QUARTREE_POLL_RECORDS(leaves);
     a_len = b_len = QUARTREE_SET_BYTES;
@@ -327,6 +330,20 @@ static uint64_t prune(void)
     return quartree_prune(n, lent.listing, listing_len, lent.table, cells, leaf, lent.out.numbers, room, lent.out_table,
                           table_room);
 }
+/* The looks, of exactly these types. */
+static uint64_t (*const look_at)(size_t, uint32_t, const uint16_t *, size_t, const uint32_t *, size_t, size_t,
+                                 const uint32_t *, size_t) = quartree_look;
+static uint64_t (*const look_at_all)(size_t, uint32_t, const uint16_t *, size_t, const uint32_t *, size_t,
+                                     const uint32_t *, size_t, uint64_t *, size_t) = quartree_look_all;
+static uint64_t look(void)
+{
+    return look_at(n, word, lent.listing, listing_len, lent.table, cells, edge, lent.new_table, new_cells);
+}
+static uint64_t look_all(void)
+{
+    return look_at_all(n, word, lent.listing, listing_len, lent.table, cells, lent.new_table, new_cells,
+                       lent.out.totals, room);
+}
 static uint64_t poll(void) { return quartree_poll(n, lent.records, count, lent.out.cells, room); }
 static uint64_t check_sheet(void) { return quartree_check_sheet(lent.sheet, sheet_len); }
 static uint64_t sheet_table(void) { return quartree_sheet_table(lent.sheet, sheet_len, lent.out.cells, room); }
@@ -352,6 +369,7 @@ static size_t of_pruned(size_t leaves) { return QUARTREE_LISTING_NUMBERS(leaves 
 static size_t of_splits(size_t leaves) { return QUARTREE_SPLIT_BYTES(leaves); }
 static size_t of_set(size_t leaves) { return QUARTREE_SET_BYTES + 0 * leaves; }
 static size_t of_table(size_t leaves) { return QUARTREE_TABLE_CELLS(leaves); }
+static size_t of_edges(size_t leaves) { return QUARTREE_EDGES(leaves); }
 static size_t of_bytes(size_t leaves) { return QUARTREE_LISTING_BYTES(leaves); }
 static size_t of_text(size_t leaves) { return leaves * lent.sheet[0] + 3 * leaves - 4; }
 
@@ -365,10 +383,12 @@ static uint64_t grafted(void) { return 4; }
 static uint64_t leaf_count(void) { return n; }
 /* A table of zeros is off from a tree's by the tree's own cells, which total twice the quartets, and it has the comb as
    its guess. */
-static uint64_t guessed_comb(void)
+static uint64_t total_of_tree(size_t leaves)
 {
-    return 256 * (word == QUARTREE_COUNTS ? 2 : 12) * QUARTREE_POLL_RECORDS(n) + 3;
+    return (word == QUARTREE_COUNTS ? 2 : 12) * QUARTREE_POLL_RECORDS(leaves);
 }
+static uint64_t guessed_comb(void) { return 256 * total_of_tree(n) + 3; }
+static uint64_t total_of_grafted(void) { return total_of_tree(n + 1); }
 static uint64_t length_of_text(void) { return text_len; }
 static uint64_t place_of_last_name(void)
 {
@@ -376,19 +396,24 @@ static uint64_t place_of_last_name(void)
     return 256 * place + name_len;
 }
 
-/* What a call takes. */
+/* What a call takes. KEPT is a table that has to be the tree's own, GROWN a leaf count that one leaf is added to, and
+   OUT_TABLE an output for a table beside that for a tree. */
 enum {
     COUNT = 1, POLL_COUNT = 2, LISTING = 4, QUESTION = 8, TABLE = 16, MERGES = 32, RECORDS = 64, SHEET = 128,
-    LEAF = 256, OUTPUT = 512, TEXT = 1024, POLL_TABLE = 2048, ZEROS = 4096, EDGE = 8192, PRUNED = 16384,
-    CHANGE = EDGE | PRUNED, SETS = 32768, SAME = 65536
+    LEAF = 256, OUTPUT = 512, TEXT = 1024, POLL_TABLE = 2048, ZEROS = 4096, EDGE = 8192, PRUNED = 16384, SETS = 32768,
+    SAME = 65536, KEPT = 1 << 17, GROWN = 1 << 18, OUT_TABLE = 1 << 19, NEW_TABLE = 1 << 20, NEW_POLL = 1 << 21,
+    TREE = COUNT | LISTING | TABLE | KEPT, LOOK = TREE | GROWN | NEW_TABLE, POLL_LOOK = LOOK | NEW_POLL
 };
+
+/* Added to a refusal's number where the new table is judged, which is last of all. */
+enum { NEW = 64 };
 
 struct entry {
     const char *name;
     uint64_t (*call)(void);
     unsigned takes;
     size_t least, most;             /* leaf counts */
-    unsigned char refused[10];      /* by these numbers, in this order; 0 ends them */
+    unsigned char refused[11];      /* by these numbers, in this order; 0 ends them */
     uint64_t (*figure)(void);       /* of an accepted call */
     size_t (*result_cells)(size_t); /* what an accepted call writes */
     const void *result;
@@ -414,9 +439,14 @@ static const struct entry entries[] = {
      standard, 2},
     {"rebuild_guided", guided, COUNT | TABLE | MERGES | OUTPUT, 3, 128, {1, 2, 3, 4, 5, 12}, rebuilt, of_listing,
      standard, 2},
-    {"graft", graft, COUNT | LISTING | TABLE | EDGE | OUTPUT, 3, 127, {1, 2, 3, 7, 8, 4, 5, 20}, grafted, of_grafted,
+    {"graft", graft, TREE | GROWN | EDGE | OUTPUT | OUT_TABLE, 3, 127, {1, 2, 3, 7, 8, 4, 5, 20}, grafted, of_grafted,
      changed, 2},
-    {"prune", prune, COUNT | LISTING | TABLE | PRUNED | OUTPUT, 4, 128, {1, 2, 3, 7, 8, 4, 5, 20}, grafted, of_pruned,
+    {"look", look, LOOK | EDGE, 3, 127, {1, 2, 7, 8, 4, 5, 20, NEW + 4, NEW + 5}, nothing, no_cells, standard, 1},
+    {"look at zeros", look, LOOK | EDGE | ZEROS, 3, 127, {1, 2, 7, 8, 4, 5, 20, NEW + 4, NEW + 5}, total_of_grafted,
+     no_cells, standard, 1},
+    {"look_all at zeros", look_all, LOOK | ZEROS | OUTPUT, 3, 127, {1, 2, 3, 7, 8, 4, 5, 20, NEW + 4, NEW + 5}, nothing,
+     of_edges, totals, 8},
+    {"prune", prune, TREE | PRUNED | OUTPUT | OUT_TABLE, 4, 128, {1, 2, 3, 7, 8, 4, 5, 20}, grafted, of_pruned,
      changed, 2},
     {"gap of a poll", gap, POLL_COUNT | LISTING | TABLE | POLL_TABLE | OUTPUT, 4, 32, {1, 2, 3, 7, 8, 4, 5}, nothing,
      of_table, gaps, 8},
@@ -428,6 +458,12 @@ static const struct entry entries[] = {
      guessed_comb, of_listing, standard, 2},
     {"rebuild_guided of a poll", guided, POLL_COUNT | TABLE | POLL_TABLE | MERGES | OUTPUT, 4, 32, {1, 2, 3, 4, 5, 12},
      rebuilt, of_listing, standard, 2},
+    {"look at a poll", look, POLL_LOOK | EDGE, 3, 31, {1, 2, 7, 8, 4, 5, 20, NEW + 4, NEW + 5}, nothing, no_cells,
+     standard, 1},
+    {"look at a poll's zeros", look, POLL_LOOK | EDGE | ZEROS, 3, 31, {1, 2, 7, 8, 4, 5, 20, NEW + 4, NEW + 5},
+     total_of_grafted, no_cells, standard, 1},
+    {"look_all at a poll's zeros", look_all, POLL_LOOK | ZEROS | OUTPUT, 3, 31,
+     {1, 2, 3, 7, 8, 4, 5, 20, NEW + 4, NEW + 5}, nothing, of_edges, totals, 8},
     {"poll", poll, POLL_COUNT | RECORDS | OUTPUT, 4, 32, {1, 2, 3, 10, 11}, nothing, of_table, sixths, 4},
     {"check_sheet", check_sheet, SHEET, 3, 128, {13, 1, 14, 15, 16}, leaf_count, no_cells, standard, 1},
     {"sheet_table", sheet_table, SHEET | OUTPUT, 3, 128, {13, 1, 14, 3, 15, 16}, leaf_count, of_table, table, 4},
@@ -446,7 +482,9 @@ enum { ENTRIES = sizeof entries / sizeof *entries };
 static void leaves_2(void) { n = 2; }
 static void leaves_129(void) { n = 129; }
 static void leaves_3(void) { n = 3; }
+static void leaves_32(void) { n = 32; }
 static void leaves_128(void) { n = 128; }
+static void most_leaves(void) { n = SIZE_MAX; }
 static void poll_of_3(void) { n = 3; }
 static void poll_of_33(void) { n = 33; }
 static void sheet_of_2(void) { put(lent.sheet + sheet_len - 8, 2, 2); }
@@ -457,6 +495,8 @@ static void question_longer(void) { question_len++; }
 static void question_shorter(void) { question_len--; }
 static void table_longer(void) { cells++; }
 static void table_shorter(void) { cells--; }
+static void new_table_longer(void) { new_cells++; }
+static void new_table_shorter(void) { new_cells--; }
 static void merges_longer(void) { merges_len++; }
 static void merges_shorter(void) { merges_len--; }
 static void poll_longer(void) { count++; }
@@ -469,6 +509,8 @@ static void room_shorter(void) { room--; }
 static void table_room_shorter(void) { table_room--; }
 static void diagonal_filled(void) { lent.table[5 * 3 + 3] = 1; }
 static void halves_unequal(void) { lent.table[5 * 1 + 3] ^= 1; }
+static void new_diagonal_filled(void) { lent.new_table[6 * 5 + 5] = 1; }
+static void new_halves_unequal(void) { lent.new_table[6 * 2 + 5] ^= 1; }
 static void cells_off_by_1(void)
 {
     lent.table[n * 1 + 2]++;
@@ -476,6 +518,7 @@ static void cells_off_by_1(void)
 }
 static void table_of_poll(void) { memcpy(lent.table, sixths, cells * sizeof *sixths); }
 static void table_of_zeros(void) { memset(lent.table, 0, cells * sizeof *lent.table); }
+static void new_table_of_zeros(void) { memset(lent.new_table, 0, new_cells * sizeof *lent.new_table); }
 static void sheet_of_zeros(void) { memset(lent.sheet + 10, 0, 20); }
 static void leaf_0_a_child(void) { lent.listing[2] = 0; }
 static void own_node_a_child(void) { lent.listing[2] = 6; }
@@ -547,7 +590,7 @@ static void no_e(void)
 
 struct fault {
     unsigned number;  /* the refusal's */
-    unsigned scope;   /* the same, as the scope has it */
+    unsigned scope;   /* the same, as the scope has it, and NEW more where the new table is judged last */
     uint64_t figure;
     unsigned in;      /* what has the fault: of those that a call takes */
     void (*make)(void);
@@ -558,7 +601,9 @@ struct fault {
 static const struct fault faults[] = {
     {QUARTREE_REFUSED_LEAF_COUNT, 1, 0, COUNT, leaves_2, 0},
     {QUARTREE_REFUSED_LEAF_COUNT, 1, 0, COUNT, leaves_129, 0},
-    {QUARTREE_REFUSED_LEAF_COUNT, 1, 0, EDGE, leaves_128, 0},
+    {QUARTREE_REFUSED_LEAF_COUNT, 1, 0, GROWN, leaves_128, 0},
+    {QUARTREE_REFUSED_LEAF_COUNT, 1, 0, GROWN, most_leaves, 0},
+    {QUARTREE_REFUSED_LEAF_COUNT, 1, 0, NEW_POLL, leaves_32, 0},
     {QUARTREE_REFUSED_LEAF_COUNT, 1, 0, PRUNED, leaves_3, 0},
     {QUARTREE_REFUSED_LEAF_COUNT, 1, 0, POLL_COUNT, poll_of_3, 0},
     {QUARTREE_REFUSED_LEAF_COUNT, 1, 0, POLL_COUNT, poll_of_33, 0},
@@ -570,6 +615,8 @@ static const struct fault faults[] = {
     {QUARTREE_REFUSED_INPUT_LENGTH, 2, 0, QUESTION, question_shorter, 0},
     {QUARTREE_REFUSED_INPUT_LENGTH, 2, 0, TABLE, table_longer, 0},
     {QUARTREE_REFUSED_INPUT_LENGTH, 2, 0, TABLE, table_shorter, 0},
+    {QUARTREE_REFUSED_INPUT_LENGTH, 2, 0, NEW_TABLE, new_table_longer, 0},
+    {QUARTREE_REFUSED_INPUT_LENGTH, 2, 0, NEW_TABLE, new_table_shorter, 0},
     {QUARTREE_REFUSED_INPUT_LENGTH, 2, 0, MERGES, merges_longer, 0},
     {QUARTREE_REFUSED_INPUT_LENGTH, 2, 0, MERGES, merges_shorter, 0},
     {QUARTREE_REFUSED_INPUT_LENGTH, 2, 0, RECORDS, poll_longer, 0},
@@ -579,9 +626,11 @@ static const struct fault faults[] = {
     {QUARTREE_REFUSED_INPUT_LENGTH, 2, 0, SETS, b_longer, 0},
     {QUARTREE_REFUSED_INPUT_LENGTH, 2, 0, SETS, b_shorter, 0},
     {QUARTREE_REFUSED_OUTPUT_ROOM, 3, 0, OUTPUT, room_shorter, 0},
-    {QUARTREE_REFUSED_OUTPUT_ROOM, 3, 0, CHANGE, table_room_shorter, 0},
+    {QUARTREE_REFUSED_OUTPUT_ROOM, 3, 0, OUT_TABLE, table_room_shorter, 0},
     {QUARTREE_REFUSED_DIAGONAL, 4, 3, TABLE, diagonal_filled, 0},
     {QUARTREE_REFUSED_HALVES, 5, 256 * 1 + 3, TABLE, halves_unequal, 0},
+    {QUARTREE_REFUSED_DIAGONAL, NEW + 4, 5, NEW_TABLE, new_diagonal_filled, 0},
+    {QUARTREE_REFUSED_HALVES, NEW + 5, 256 * 2 + 5, NEW_TABLE, new_halves_unequal, 0},
     {QUARTREE_REFUSED_NO_TREE, 6, 0, TABLE, table_of_zeros, 0},
     {QUARTREE_REFUSED_NO_TREE, 6, 0, SHEET, sheet_of_zeros, 0},
     {QUARTREE_REFUSED_CHILD, 7, 2, LISTING, leaf_0_a_child, 0},
@@ -618,9 +667,9 @@ static const struct fault faults[] = {
     {QUARTREE_REFUSED_UNMATCHED, 19, 0, TEXT, x_for_a, 0},
     {QUARTREE_REFUSED_UNMATCHED, 19, 0, TEXT, a_again_for_b, 0},
     {QUARTREE_REFUSED_UNMATCHED, 19, 0, TEXT, no_e, 1},
-    {QUARTREE_REFUSED_NOT_OWN, 20, 0, CHANGE, cells_off_by_1, 0},
-    {QUARTREE_REFUSED_NOT_OWN, 20, 0, CHANGE, table_of_poll, 1},
-    {QUARTREE_REFUSED_NOT_OWN, 20, 0, CHANGE, table_of_zeros, 1},
+    {QUARTREE_REFUSED_NOT_OWN, 20, 0, KEPT, cells_off_by_1, 0},
+    {QUARTREE_REFUSED_NOT_OWN, 20, 0, KEPT, table_of_poll, 1},
+    {QUARTREE_REFUSED_NOT_OWN, 20, 0, KEPT, table_of_zeros, 1},
     {QUARTREE_REFUSED_NOT_OWN, 20, 0, EDGE, edge_0, 1},
     {QUARTREE_REFUSED_NOT_OWN, 20, 0, EDGE, edge_8, 0},
     {QUARTREE_REFUSED_NOT_OWN, 20, 0, EDGE, edge_257, 1},
@@ -650,21 +699,34 @@ static void claim(int holds, const char *entry, const char *what, unsigned numbe
 /* How many leaves a graft or a prune leaves. */
 static size_t leaves_left(const struct entry *entry, size_t leaves)
 {
-    return (entry->takes & EDGE) != 0 ? leaves + 1 : leaves - 1;
+    return (entry->takes & GROWN) != 0 ? leaves + 1 : leaves - 1;
+}
+
+/* The table of the comb with a leaf more, which is what a graft on edge n-1 makes; six times it for a poll's. */
+static void fill_new(int is_poll)
+{
+    comb(n + 1, changed, lent.new_table);
+    for (size_t place = 0; is_poll && place < new_cells; place++)
+        lent.new_table[place] *= 6;
 }
 
 static void fill_for(const struct entry *entry, size_t leaves)
 {
     fill(leaves);
     room = entry->result_cells(leaves);
-    word = (entry->takes & POLL_TABLE) != 0 ? QUARTREE_POLL : QUARTREE_COUNTS;
-    if (word == QUARTREE_POLL)
+    word = (entry->takes & (POLL_TABLE | NEW_POLL)) != 0 ? QUARTREE_POLL : QUARTREE_COUNTS;
+    if ((entry->takes & POLL_TABLE) != 0)
         table_of_poll();
+    if ((entry->takes & NEW_TABLE) != 0) {
+        fill_new(word == QUARTREE_POLL);
+        for (size_t k = 0; k < QUARTREE_EDGES(leaves); k++)
+            totals[k] = total_of_grafted();
+    }
     if ((entry->takes & ZEROS) != 0)
-        table_of_zeros();
+        ((entry->takes & NEW_TABLE) != 0 ? new_table_of_zeros : table_of_zeros)();
     if ((entry->takes & SAME) != 0)
         memcpy(lent.b, lent.a, QUARTREE_SET_BYTES);
-    if ((entry->takes & CHANGE) != 0) {
+    if ((entry->takes & OUT_TABLE) != 0) {
         comb(leaves_left(entry, leaves), changed, changed_table);
         table_room = QUARTREE_TABLE_CELLS(leaves_left(entry, leaves));
     }
@@ -684,7 +746,7 @@ static void accept(const struct entry *entry)
     claim(QUARTREE_NUMBER(reply) == (unsigned)QUARTREE_ACCEPTED, entry->name, "is refused", 0);
     claim(QUARTREE_FIGURE(reply) == entry->figure(), entry->name, "has another figure", 0);
     memcpy(&before.out, entry->result, entry->result_cells(n) * entry->cell_bytes);
-    if ((entry->takes & CHANGE) != 0)
+    if ((entry->takes & OUT_TABLE) != 0)
         memcpy(before.out_table, changed_table,
                QUARTREE_TABLE_CELLS(leaves_left(entry, n)) * sizeof *changed_table);
     claim(memcmp(&before, &lent, sizeof lent) == 0, entry->name, "leaves something else in a buffer", 0);
@@ -694,10 +756,11 @@ static void accept(const struct entry *entry)
 static void refuse(const struct entry *entry, const struct fault *fault)
 {
     uint64_t reply = make(entry), figure = entry->call == rebuild_sheet ? 0 : fault->figure;
-    claim(fault->number == fault->scope, entry->name, "the header numbers the refusal otherwise", fault->scope);
-    claim(QUARTREE_NUMBER(reply) == fault->number, entry->name, "has another number", fault->scope);
-    claim(QUARTREE_FIGURE(reply) == figure, entry->name, "has another figure", fault->scope);
-    claim(memcmp(&before, &lent, sizeof lent) == 0, entry->name, "is refused and changes a buffer", fault->scope);
+    unsigned due = fault->scope % NEW;
+    claim(fault->number == due, entry->name, "the header numbers the refusal otherwise", due);
+    claim(QUARTREE_NUMBER(reply) == due, entry->name, "has another number", due);
+    claim(QUARTREE_FIGURE(reply) == figure, entry->name, "has another figure", due);
+    claim(memcmp(&before, &lent, sizeof lent) == 0, entry->name, "is refused and changes a buffer", due);
 }
 
 /* Can the call have this fault? */
@@ -719,7 +782,8 @@ static void make_faults(const struct entry *entry, size_t place)
 static unsigned try_faults(const struct entry *entry)
 {
     unsigned met = 0;
-    for (size_t place = 0; entry->refused[place] != 0; place++)
+    for (size_t place = 0; entry->refused[place] != 0; place++) {
+        unsigned earlier = calls;
         for (size_t f = 0; f < FAULTS; f++)
             if (can_have(entry, &faults[f], entry->refused[place])) {
                 fill_for(entry, 5);
@@ -733,8 +797,8 @@ static unsigned try_faults(const struct entry *entry)
                 faults[f].make();
                 refuse(entry, &faults[f]);
             }
-    for (size_t place = 0; entry->refused[place] != 0; place++)
-        claim((met >> entry->refused[place] & 1) != 0, entry->name, "no fault is tried", entry->refused[place]);
+        claim(calls > earlier, entry->name, "no fault is tried", entry->refused[place] % NEW);
+    }
     return met;
 }
 
@@ -801,6 +865,11 @@ static void try_words(void)
             room = cells;
             claim(gap() == QUARTREE_ACCEPTED && (memcmp(lent.out.gaps, gaps, cells * sizeof *gaps) == 0) == right,
                   "gap", "takes another word for a table", 0);
+            memcpy(lent.table, table, cells * sizeof *table);
+            fill_new(is_poll != 0);
+            claim((look() == QUARTREE_ACCEPTED) == right, "look", "takes another word for a table", 0);
+            claim(look_all() == QUARTREE_ACCEPTED && (lent.out.totals[edge - 1] == 0) == right, "look_all",
+                  "takes another word for a table", 0);
         }
 }
 
@@ -822,19 +891,28 @@ static const struct {
 };
 enum { ROUGH = sizeof rough / sizeof *rough };
 
-/* Puts a number into a cell and its mirror cell. */
-static void put_cell(size_t i, size_t j, uint32_t cell) { lent.table[n * i + j] = lent.table[n * j + i] = cell; }
+/* Puts a number into a cell of a table of so many leaves, and into its mirror cell. */
+static void put_cell(uint32_t *to, size_t leaves, size_t i, size_t j, uint32_t cell)
+{
+    to[leaves * i + j] = to[leaves * j + i] = cell;
+}
+
+/* The total gap of a table from a tree, by a call that writes their gaps. */
+static uint64_t total_of(uint64_t reply, size_t leaves)
+{
+    uint64_t total = 0;
+    claim(reply == QUARTREE_ACCEPTED, "gap", "is refused", 0);
+    for (size_t i = 0; i < leaves; i++)
+        for (size_t j = i + 1; j < leaves; j++)
+            total += (uint64_t)llabs(lent.out.gaps[leaves * i + j]);
+    return total;
+}
 
 /* The total gap of the table from the tree of the listing lent. */
 static uint64_t total_gap(void)
 {
-    uint64_t total = 0;
     room = cells;
-    claim(gap() == QUARTREE_ACCEPTED, "gap", "is refused", 0);
-    for (size_t i = 0; i < n; i++)
-        for (size_t j = i + 1; j < n; j++)
-            total += (uint64_t)llabs(lent.out.gaps[n * i + j]);
-    return total;
+    return total_of(gap(), n);
 }
 
 /* What the header says of the guess of every table: marked rebuilt and answered as by the rebuild, or marked guessed
@@ -874,7 +952,7 @@ static void try_rough(void)
         word = rough[r].said;
         for (size_t i = 0; i < n; i++)
             for (size_t j = i + 1; j < n; j++)
-                put_cell(i, j, *next++);
+                put_cell(lent.table, n, i, j, *next++);
         room = listing_len;
         claim(guess() == 256 * 3 + 65536 * rough[r].total, "guess", "has another figure for a rough table", 0);
         claim(memcmp(lent.out.numbers, rough[r].due, listing_len * sizeof *rough[r].due) == 0, "guess",
@@ -902,30 +980,41 @@ static uint32_t any_number(void)
     return (uint32_t)(state >> 32);
 }
 
-/* Tables of every kind, from the least leaves to the most: the comb's with a few cells changed or none, cells by chance
-   within a tree's or of any size, and the greatest. */
+/* The kinds of tables that are made of a tree's: with a few cells changed or none, with cells by chance within a tree's
+   or of any size, and with the greatest. */
+enum { CHANGED, SMALL, ANY, GREATEST, KINDS };
+
+static void change_cells(uint32_t *of, size_t leaves, int kind)
+{
+    uint32_t most = (uint32_t)pairs_of(leaves) * (word == QUARTREE_POLL ? 6 : 1);
+    for (size_t i = 0; i < leaves; i++)
+        for (size_t j = i + 1; j < leaves; j++)
+            if (kind == GREATEST)
+                put_cell(of, leaves, i, j, UINT32_MAX);
+            else if (kind == ANY)
+                put_cell(of, leaves, i, j, any_number());
+            else if (kind == SMALL || any_number() % (2 * leaves) == 0)
+                put_cell(of, leaves, i, j, any_number() % (most + 1));
+}
+
+/* Can a table of so many leaves be lent with this word? */
+static int goes_with(uint32_t said, size_t leaves)
+{
+    return said == QUARTREE_COUNTS || (leaves >= QUARTREE_POLL_LEAST_LEAVES && leaves <= QUARTREE_POLL_MOST_LEAVES);
+}
+
+/* The comb's table and what is made of it, from the least leaves to the most. */
 static void try_tables(void)
 {
     static const size_t sizes[] = {3, 4, 5, 6, 7, 8, 16, 32, 128};
-    enum { CHANGED, SMALL, ANY, GREATEST, KINDS };
     for (size_t s = 0; s < sizeof sizes / sizeof *sizes; s++)
         for (int kind = CHANGED; kind < KINDS; kind++)
-            for (uint32_t said = QUARTREE_COUNTS; said <= QUARTREE_POLL; said++) {
-                uint32_t most = (uint32_t)pairs_of(sizes[s]) * (said == QUARTREE_POLL ? 6 : 1);
-                if (said == QUARTREE_POLL && (sizes[s] < 4 || sizes[s] > 32))
-                    continue;
+            for (uint32_t said = QUARTREE_COUNTS; said <= QUARTREE_POLL && goes_with(said, sizes[s]); said++) {
                 fill(sizes[s]);
                 word = said;
                 if (said == QUARTREE_POLL)
                     table_of_poll();
-                for (size_t i = 0; i < n; i++)
-                    for (size_t j = i + 1; j < n; j++)
-                        if (kind == GREATEST)
-                            put_cell(i, j, UINT32_MAX);
-                        else if (kind == ANY)
-                            put_cell(i, j, any_number());
-                        else if (kind == SMALL || any_number() % (2 * n) == 0)
-                            put_cell(i, j, any_number() % (most + 1));
+                change_cells(lent.table, n, kind);
                 try_guess();
             }
 }
@@ -955,6 +1044,7 @@ static void lend(const struct tree *tree, size_t leaves)
     n = tree->leaves;
     listing_len = QUARTREE_LISTING_NUMBERS(n);
     cells = QUARTREE_TABLE_CELLS(n);
+    new_cells = QUARTREE_TABLE_CELLS(n + 1);
     room = QUARTREE_LISTING_NUMBERS(leaves);
     table_room = QUARTREE_TABLE_CELLS(leaves);
     memcpy(lent.table, tree->cells, cells * sizeof *lent.table);
@@ -1119,6 +1209,86 @@ static void try_leaves(const struct tree *tree)
     claim(tree->leaves > 16 || made == 1, "graft", "does not make a tree of what pruning its last leaf leaves", 0);
 }
 
+/* What looking comes to without a look: a copy is grafted, and its gaps from the new table are added up. */
+static uint64_t total_by_graft(const struct tree *tree, size_t on)
+{
+    static struct tree to;
+    graft_on(tree, on, &to);
+    return total_of(quartree_gap(to.leaves, word, lent.new_table, new_cells, to.rows,
+                                 QUARTREE_LISTING_NUMBERS(to.leaves), lent.out.gaps, new_cells),
+                    to.leaves);
+}
+
+/* What the header says of looks, of one tree and the new table lent: at every edge. Told is the edge whose total is 0,
+   or 0 where there is none. */
+static size_t try_look(const struct tree *tree)
+{
+    static uint64_t all[QUARTREE_EDGES(127)];
+    size_t exact = 0;
+    lend(tree, tree->leaves);
+    room = QUARTREE_EDGES(n);
+    claim(look_all() == QUARTREE_ACCEPTED, "look_all", "is refused", 0);
+    memcpy(all, lent.out.totals, QUARTREE_EDGES(n) * sizeof *all);
+    for (size_t on = 1; on <= QUARTREE_EDGES(n); on++) {
+        edge = on;
+        claim(look() == 256 * all[on - 1] && all[on - 1] >> 45 == 0, "look_all", "tells another total", 0);
+        claim(all[on - 1] != 0 || exact == 0, "look", "has a total of 0 on two edges", 0);
+        if (all[on - 1] == 0)
+            exact = on;
+        if (!passed_over(on, 1, QUARTREE_EDGES(n)))
+            claim(total_by_graft(tree, on) == all[on - 1], "look", "tells another total than a graft has", 0);
+    }
+    return exact;
+}
+
+/* A tree and a new table: that of the tree grafted on an edge, from which that edge alone has a total of 0; and what is
+   made of it. */
+static void try_looks(const struct tree *tree)
+{
+    static struct tree to;
+    for (word = QUARTREE_COUNTS; word <= QUARTREE_POLL && goes_with(word, tree->leaves + 1); word++) {
+        size_t right = 1 + any_number() % QUARTREE_EDGES(tree->leaves);
+        graft_on(tree, right, &to);
+        for (size_t place = 0; place < new_cells; place++)
+            lent.new_table[place] = (word == QUARTREE_POLL ? 6 : 1) * to.cells[place];
+        claim(try_look(tree) == right, "look", "has no total of 0 where the grafted tree has the table", 0);
+        for (int kind = CHANGED; kind < KINDS; kind++) {
+            change_cells(lent.new_table, to.leaves, kind);
+            try_look(tree);
+        }
+    }
+}
+
+/* A look is refused where the graft is, with the same reply, but for 3: by every fault that a graft can have, and every
+   two; of these some undo each other. One table may be lent as the table kept and as the new one. */
+static void try_refused_looks(void)
+{
+    static const uint16_t three[] = {1, 2};
+    static const uint32_t zeros[QUARTREE_TABLE_CELLS(4)] = {0};
+    unsigned grafts = TREE | GROWN | EDGE;
+    uint64_t reply;
+    for (size_t f = 0; f < FAULTS; f++)
+        for (size_t g = 0; g <= f; g++) {
+            if ((faults[f].in & grafts) == 0 || (faults[g].in & grafts) == 0)
+                continue;
+            fill(5);
+            word = QUARTREE_COUNTS;
+            fill_new(0);
+            room = QUARTREE_LISTING_NUMBERS(6);
+            table_room = QUARTREE_TABLE_CELLS(6);
+            faults[f].make();
+            if (g != f)
+                faults[g].make();
+            reply = graft();
+            if (reply == 256 * QUARTREE_GRAFTED)
+                reply = QUARTREE_ACCEPTED;
+            claim(look() == reply, "look", "is not refused as the graft is", QUARTREE_NUMBER(reply));
+        }
+    for (word = QUARTREE_COUNTS; word <= QUARTREE_POLL; word++)
+        claim(look_at(3, word, three, 2, zeros, 9, 1, zeros, 16) == 256 * total_of_tree(4), "look",
+              "does not take one table for two", 0);
+}
+
 /* Grafts from the least leaves to the most and prunes back, each handed what the one before it made. */
 static void try_chain(void)
 {
@@ -1128,7 +1298,8 @@ static void try_chain(void)
         graft_on(&tree, 1 + any_number() % QUARTREE_EDGES(tree.leaves), &to);
     lend(&tree, 128);
     edge = 1;
-    claim(graft() == QUARTREE_REFUSED_LEAF_COUNT, "graft", "takes 128 leaves", 1);
+    claim(graft() == QUARTREE_REFUSED_LEAF_COUNT && look() == QUARTREE_REFUSED_LEAF_COUNT, "graft", "takes 128 leaves",
+          1);
     for (; tree.leaves > 3; tree = to)
         prune_off(&tree, any_number() % tree.leaves, &to);
     lend(&tree, 3);
@@ -1136,7 +1307,7 @@ static void try_chain(void)
     claim(prune() == QUARTREE_REFUSED_LEAF_COUNT, "prune", "takes 3 leaves", 1);
 }
 
-/* A tree that was guessed is changed with its own table, and not with the rough one. */
+/* A tree that was guessed is changed and looked at with its own table, and not with the rough one. */
 static void try_guessed(void)
 {
     static struct tree tree, to;
@@ -1148,8 +1319,9 @@ static void try_guessed(void)
     memcpy(tree.rows, lent.out.numbers, listing_len * sizeof *tree.rows);
     memcpy(lent.listing, tree.rows, listing_len * sizeof *tree.rows);
     edge = leaf = 1;
-    claim(graft() == QUARTREE_REFUSED_NOT_OWN && prune() == QUARTREE_REFUSED_NOT_OWN, "graft", "takes a rough table",
-          20);
+    claim(graft() == QUARTREE_REFUSED_NOT_OWN && prune() == QUARTREE_REFUSED_NOT_OWN
+              && look() == QUARTREE_REFUSED_NOT_OWN && look_all() == QUARTREE_REFUSED_NOT_OWN,
+          "graft", "takes a rough table", 20);
     claim(quartree_table(n, tree.rows, listing_len, tree.cells, cells) == QUARTREE_ACCEPTED, "table",
           "refuses a guess", 0);
     graft_on(&tree, 1, &to);
@@ -1158,16 +1330,19 @@ static void try_guessed(void)
 
 static void try_changes(void)
 {
-    static const size_t sizes[] = {3, 4, 5, 6, 7, 8, 9, 16, 127, 128};
+    static const size_t sizes[] = {3, 4, 5, 6, 7, 8, 9, 16, 31, 127, 128};
     static struct tree tree;
     for (size_t s = 0; s < sizeof sizes / sizeof *sizes; s++)
         for (int time = 0; time < (sizes[s] < 16 ? 3 : 1); time++) {
             draw(&tree, sizes[s]);
-            if (tree.leaves < 128)
+            if (tree.leaves < 128) {
                 try_edges(&tree);
+                try_looks(&tree);
+            }
             if (tree.leaves > 3)
                 try_leaves(&tree);
         }
+    try_refused_looks();
     try_chain();
     try_guessed();
 }
@@ -1450,6 +1625,14 @@ static void try_texts(void)
           "origin_text", "has no text for other numbers", 0);
 }
 
+/* The version is made of its parts. */
+static void try_version(void)
+{
+    char due[40];
+    snprintf(due, sizeof due, "%d.%d.%d", QUARTREE_VERSION_MAJOR, QUARTREE_VERSION_MINOR, QUARTREE_VERSION_PATCH);
+    claim(strcmp(QUARTREE_VERSION, due) == 0, "*", "the header's version is not that of its parts", 0);
+}
+
 int main(void)
 {
     unsigned met = 0;
@@ -1477,6 +1660,7 @@ int main(void)
     try_origins();
     try_records();
     try_texts();
+    try_version();
     printf("header: %u calls, every refusal met\n", calls);
     return 0;
 }

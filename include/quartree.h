@@ -2,10 +2,10 @@
 
    The part turns a table of quartet counts into the one tree that has it, or refuses; and it goes the other way. Where
    no tree has the table, it guesses one, if it is asked to, and says so. It adds leaves to a tree and takes leaves from
-   it, and keeps its table in step. It lists a tree's splits, and joins, intersects and compares leaf sets. It writes
-   trees as Newick text, and reads them. Trees have no root and no branch lengths. This header is the manual: the words,
-   the sizes, the reply and the causes of refusal, the origins, what a caller owes, what every call promises, and then
-   the calls.
+   it, and keeps its table in step; before a leaf is added, it tells how far from a table the tree would be. It lists a
+   tree's splits, and joins, intersects and compares leaf sets. It writes trees as Newick text, and reads them. Trees
+   have no root and no branch lengths. This header is the manual: the words, the sizes, the reply and the causes of
+   refusal, the origins, what a caller owes, what every call promises, and then the calls.
 
    Link with libquartree.a. Of the C library it takes memcpy, memmove, memset and memcmp at most.
 
@@ -18,16 +18,18 @@
 #include <stddef.h>
 #include <stdint.h>
 
-#define QUARTREE_VERSION "0.8.0"
+#define QUARTREE_VERSION "0.9.0"
 #define QUARTREE_VERSION_MAJOR 0
-#define QUARTREE_VERSION_MINOR 8
+#define QUARTREE_VERSION_MINOR 9
 #define QUARTREE_VERSION_PATCH 0
 
-/* From 0.7 to 0.8: quartree_set_join, quartree_set_intersect and quartree_set_equal are new, and the text of refusal 2
+/* From 0.8 to 0.9: quartree_look and quartree_look_all are new, and the text of refusal 20 says that it means the table
+   kept beside the tree. Nothing else changes.
+
+   From 0.7 to 0.8: quartree_set_join, quartree_set_intersect and quartree_set_equal are new, and the text of refusal 2
    names leaf sets, too. Nothing else changes.
 
-   From 0.6 to 0.7: quartree_graft and quartree_prune are new, and so is refusal 20, which they alone give. Nothing else
-   changes.
+   From 0.6 to 0.7: quartree_graft and quartree_prune are new, and so is refusal 20. Nothing else changes.
 
    From 0.5 to 0.6: quartree_guess is new; it takes more stack than the other calls (QUARTREE_GUESS_STACK_BYTES). Where
    no tree has a sheet's table, the program rebuild prints a guess, where it printed `refused 6`. Nothing else changes.
@@ -172,7 +174,7 @@
 enum quartree_refusal {
     QUARTREE_ACCEPTED = 0,
     QUARTREE_REFUSED_LEAF_COUNT = 1,    /* leaf count outside 3..128 (polls and their tables 4..32), or that of the
-                                           grafted or pruned tree outside 3..128 */
+                                           grafted or pruned tree outside 3..128; a look's new table has n+1 leaves */
     QUARTREE_REFUSED_INPUT_LENGTH = 2,  /* an input not exactly as long as the leaf count needs, or a leaf set that has
                                            not exactly 16 bytes */
     QUARTREE_REFUSED_OUTPUT_ROOM = 3,   /* an output shorter than its result */
@@ -198,7 +200,7 @@ enum quartree_refusal {
                                            byte that does, or the text's length if it stops early */
     QUARTREE_REFUSED_NOT_BINARY = 18,   /* bracket of the text has not two parts, nor three as the top */
     QUARTREE_REFUSED_UNMATCHED = 19,    /* name of the text unknown to the sheet, repeated or missing */
-    QUARTREE_REFUSED_NOT_OWN = 20       /* the edge or leaf named absent, or the table not the tree's own */
+    QUARTREE_REFUSED_NOT_OWN = 20       /* the edge or leaf named absent, or the table kept not the tree's own */
 };
 
 /* A text for each refusal's number, and for 0. */
@@ -246,7 +248,7 @@ static inline const char *quartree_refusal_text(unsigned number)
     case QUARTREE_REFUSED_UNMATCHED:
         return "the text's names are not the sheet's, each once";
     case QUARTREE_REFUSED_NOT_OWN:
-        return "the tree has no such edge or leaf, or the table is not its own";
+        return "the tree has no such edge or leaf, or the table kept beside it is not its own";
     default:
         return "no refusal has this number";
     }
@@ -257,8 +259,8 @@ static inline const char *quartree_refusal_text(unsigned number)
    Origins have the numbers 0 to 4. A number above 4 is taken as QUARTREE_LISTED. An accepted quartree_rebuild,
    quartree_rebuild_guided, quartree_import, quartree_restandardise, quartree_graft or quartree_prune tells the origin
    of its tree as the figure, and an accepted quartree_guess as QUARTREE_FIGURE_Y. Other figures are no origins: not
-   that of a refused call, nor that of quartree_check, though their 0 would read as QUARTREE_REBUILT; nor the whole
-   figure of quartree_guess, which holds the total gap too. */
+   that of a refused call, nor that of quartree_check or quartree_look, though their 0 would read as QUARTREE_REBUILT;
+   nor the whole figure of quartree_guess, which holds the total gap too. */
 
 #define QUARTREE_REBUILT 0
 #define QUARTREE_LISTED 1
@@ -449,15 +451,26 @@ uint64_t quartree_rebuild_guided(size_t n, uint32_t poll, const uint32_t *table,
 
    For a collection that adds and drops leaves, and keeps its table beside its tree. The tree is lent as a listing,
    whose length, len, has to be QUARTREE_LISTING_NUMBERS(n), with its table, whose length, cells, has to be
-   QUARTREE_TABLE_CELLS(n). Nothing is changed in place: the new tree and the new table go to outputs of their own.
+   QUARTREE_TABLE_CELLS(n). Nothing is changed in place: the changed tree and its table go to outputs of their own.
 
-   The table has to be the tree's own in every cell, as quartree_table writes it; else the call is refused by 20. A
+   The table kept has to be the tree's own in every cell, as quartree_table writes it; else the call is refused by 20. A
    poll's table is not, since it counts sixths; nor is the rough table that a tree was guessed from. The caller counts
    the table of such a tree afresh first, by quartree_table.
 
    Pruning the leaf just grafted gives back the old standard listing and the old table ('pruned-grafted'); the origin
    stays grafted. Grafts on different edges are different trees ('grafted-once'), and every tree on n+1 leaves is a
-   graft of what pruning its leaf n leaves ('graft-of-prune'). */
+   graft of what pruning its leaf n leaves ('graft-of-prune').
+
+   A caller may look before grafting. A look is lent a new table, too, one of n+1 leaves, and tells the total gap that
+   the grafted tree would have from it. The new table's length, new_cells, has to be QUARTREE_TABLE_CELLS(n + 1), and
+   poll says what it is, as above. The table kept is one of counts, also where the new table is a poll's. Neither the
+   tree nor a table moves.
+
+   Once the sizes are right, quartree_look is refused where grafting is, with the same number and figure, but for 3
+   ('look-refused-with-graft'). For the new table a look is refused by 2, with the sizes, and by 4 or 5, last of all. So
+   4 or 5 does not say which table it speaks of: the table kept is judged first, and 20 comes between. Refusal 1 is
+   given when n is not 3 to 127. For a poll's new table it judges n+1, which has to be 4 to 32; so it is given when n is
+   not 3 to 31. */
 
 /* Grafts leaf n on an edge of a listing's tree.
    Refused, in this order: 1, 2 (either input), 3 (either output), 7, 8, 4, 5, 20. Refusal 1 is given when n is not 3 to
@@ -468,6 +481,24 @@ uint64_t quartree_rebuild_guided(size_t n, uint32_t poll, const uint32_t *table,
    QUARTREE_GRAFTED. */
 uint64_t quartree_graft(size_t n, const uint16_t *listing, size_t len, const uint32_t *table, size_t cells, size_t edge,
                         uint16_t *out, size_t room, uint32_t *out_table, size_t table_room);
+
+/* Tells the total gap that a listing's tree would have from a new table, if leaf n were grafted on an edge.
+   Refused, in this order: 1, 2 (any input), 7, 8, 4, 5 (the table kept), 20, 4, 5 (the new table). Refusal 20 is given
+   when edge is not 1 to QUARTREE_EDGES(n), or the table kept is not the tree's own.
+   Accepted: the figure is the total gap, which is below 2^45 and so told whole. It equals what comes of grafting a copy
+   by quartree_graft, and adding up the sizes of what quartree_gap writes for it and the new table, over all i < j
+   ('look-is-graft-and-gap'). It is 0 exactly where the grafted tree has the new table ('look-zero'), and so at one edge
+   at most ('look-zero-once'). There is no output. */
+uint64_t quartree_look(size_t n, uint32_t poll, const uint16_t *listing, size_t len, const uint32_t *table,
+                       size_t cells, size_t edge, const uint32_t *new_table, size_t new_cells);
+
+/* Tells the same for every edge of a listing's tree at once.
+   Refused, in this order: 1, 2 (any input), 3, 7, 8, 4, 5 (the table kept), 20, 4, 5 (the new table). Refusal 20 is
+   given when the table kept is not the tree's own.
+   Accepted: the first QUARTREE_EDGES(n) numbers of totals are the total gaps for edges 1, 2, 3 and so on:
+   totals[edge - 1] is what quartree_look tells of that edge ('look-all-is-look'). At most one of them is 0. */
+uint64_t quartree_look_all(size_t n, uint32_t poll, const uint16_t *listing, size_t len, const uint32_t *table,
+                           size_t cells, const uint32_t *new_table, size_t new_cells, uint64_t *totals, size_t room);
 
 /* Prunes a leaf of a listing's tree.
    Refused, in this order: 1, 2 (either input), 3 (either output), 7, 8, 4, 5, 20. Refusal 1 is given when n is not 4 to

@@ -44,6 +44,17 @@ SET_OF_TWO(real_set_join);
 SET_OF_TWO(real_set_intersect);
 SET_TEST(real_set_equal);
 
+/* An entry that looks at an edge before grafting, and one that looks at all. */
+#define LOOK(entry) \
+    uint64_t entry(size_t n, uint32_t poll, const uint16_t *listing, size_t len, const uint32_t *table, size_t cells, \
+                   size_t edge, const uint32_t *new_table, size_t new_cells)
+#define LOOK_ALL(entry) \
+    uint64_t entry(size_t n, uint32_t poll, const uint16_t *listing, size_t len, const uint32_t *table, size_t cells, \
+                   const uint32_t *new_table, size_t new_cells, uint64_t *totals, size_t room)
+
+LOOK(real_look);
+LOOK_ALL(real_look_all);
+
 #if FAULT == 1 /* check: the position counted from 1 */
 uint64_t quartree_check(size_t n, const uint16_t *listing, size_t len)
 {
@@ -1252,5 +1263,196 @@ SET_TEST(quartree_set_equal)
     uint64_t reply = real_set_equal(a, a_len, b, b_len);
     uint64_t second = a_len == QUARTREE_SET_BYTES;
     return NUMBER(reply) == QUARTREE_REFUSED_INPUT_LENGTH ? reply | second << 8 : reply;
+}
+
+#elif FAULT == 153 /* look: the origin told with the total, as a guess does */
+LOOK(quartree_look)
+{
+    uint64_t reply = real_look(n, poll, listing, len, table, cells, edge, new_table, new_cells);
+    return NUMBER(reply) == QUARTREE_ACCEPTED ? reply << 8 | 256 * QUARTREE_GRAFTED : reply;
+}
+
+#elif FAULT == 154 /* look: the total in the number's place */
+LOOK(quartree_look)
+{
+    uint64_t reply = real_look(n, poll, listing, len, table, cells, edge, new_table, new_cells);
+    return NUMBER(reply) == QUARTREE_ACCEPTED ? QUARTREE_FIGURE(reply) : reply;
+}
+
+#elif FAULT == 155 /* look: the total in 32 bits */
+LOOK(quartree_look)
+{
+    return real_look(n, poll, listing, len, table, cells, edge, new_table, new_cells) & 0xFFFFFFFFFF;
+}
+
+#elif FAULT == 156 /* look: the total of all cells, each counted twice */
+LOOK(quartree_look)
+{
+    uint64_t reply = real_look(n, poll, listing, len, table, cells, edge, new_table, new_cells);
+    return NUMBER(reply) == QUARTREE_ACCEPTED ? 2 * reply : reply;
+}
+
+#elif FAULT == 157 /* look: the cell of the two last leaves left out */
+LOOK(quartree_look)
+{
+    uint64_t reply = real_look(n, poll, listing, len, table, cells, edge, new_table, new_cells);
+    uint16_t rows[QUARTREE_LISTING_NUMBERS(QUARTREE_MOST_LEAVES)];
+    static uint32_t own[QUARTREE_TABLE_CELLS(QUARTREE_MOST_LEAVES)];
+    if (NUMBER(reply) != QUARTREE_ACCEPTED)
+        return reply;
+    real_graft(n, listing, len, table, cells, edge, rows, QUARTREE_LISTING_NUMBERS(n + 1), own, new_cells);
+    int64_t gap = (int64_t)new_table[new_cells - 2] - (poll == 0 ? 1 : 6) * (int64_t)own[new_cells - 2];
+    return reply - 256 * (uint64_t)(gap < 0 ? -gap : gap);
+}
+
+#elif FAULT == 158 /* look: the word for the table ignored */
+LOOK(quartree_look)
+{
+    (void)poll;
+    return real_look(n, QUARTREE_COUNTS, listing, len, table, cells, edge, new_table, new_cells);
+}
+
+#elif FAULT == 159 /* look: the leaf count taken for the grafted tree's */
+LOOK(quartree_look)
+{
+    return real_look(n - 1, poll, listing, len, table, cells, edge, new_table, new_cells);
+}
+
+#elif FAULT == 160 /* look: the two tables exchanged */
+LOOK(quartree_look)
+{
+    return real_look(n, poll, listing, len, new_table, new_cells, edge, table, cells);
+}
+
+#elif FAULT == 161 /* look: the edge in 16 bits */
+LOOK(quartree_look)
+{
+    return real_look(n, poll, listing, len, table, cells, (uint16_t)edge, new_table, new_cells);
+}
+
+#elif FAULT == 162 /* look: the edge in 32 bits */
+LOOK(quartree_look)
+{
+    return real_look(n, poll, listing, len, table, cells, (uint32_t)edge, new_table, new_cells);
+}
+
+#elif FAULT == 163 /* look: the edge behind the last taken for leaf 0's */
+LOOK(quartree_look)
+{
+    return real_look(n, poll, listing, len, table, cells, edge - (edge == QUARTREE_EDGES(n) + 1), new_table, new_cells);
+}
+
+#elif FAULT == 164 /* look: the length of the new table in 16 bits */
+LOOK(quartree_look)
+{
+    return real_look(n, poll, listing, len, table, cells, edge, new_table, (uint16_t)new_cells);
+}
+
+#elif FAULT == 165 /* look: the new table's diagonal before 20 */
+LOOK(quartree_look)
+{
+    uint64_t reply = real_look(n, poll, listing, len, table, cells, edge, new_table, new_cells);
+    for (size_t leaf = 0; reply == QUARTREE_REFUSED_NOT_OWN && leaf <= n; leaf++)
+        if (new_table[(n + 2) * leaf] != 0)
+            return QUARTREE_REFUSED_DIAGONAL | (uint64_t)leaf << 8;
+    return reply;
+}
+
+#elif FAULT == 166 /* look: the total left in the caller's new table */
+LOOK(quartree_look)
+{
+    uint64_t reply = real_look(n, poll, listing, len, table, cells, edge, new_table, new_cells);
+    if (NUMBER(reply) == QUARTREE_ACCEPTED)
+        *(uint32_t *)(uintptr_t)new_table = (uint32_t)QUARTREE_FIGURE(reply);
+    return reply;
+}
+
+#elif FAULT == 167 /* look_all: the number of totals told */
+LOOK_ALL(quartree_look_all)
+{
+    uint64_t reply = real_look_all(n, poll, listing, len, table, cells, new_table, new_cells, totals, room);
+    return reply == QUARTREE_ACCEPTED ? QUARTREE_EDGES(n) << 8 : reply;
+}
+
+#elif FAULT == 168 /* look_all: the totals in 32 bits */
+LOOK_ALL(quartree_look_all)
+{
+    uint64_t reply = real_look_all(n, poll, listing, len, table, cells, new_table, new_cells, totals, room);
+    for (size_t place = 0; reply == QUARTREE_ACCEPTED && place < QUARTREE_EDGES(n); place++)
+        totals[place] &= 0xFFFFFFFF;
+    return reply;
+}
+
+#elif FAULT == 169 /* look_all: the totals as replies */
+LOOK_ALL(quartree_look_all)
+{
+    uint64_t reply = real_look_all(n, poll, listing, len, table, cells, new_table, new_cells, totals, room);
+    for (size_t place = 0; reply == QUARTREE_ACCEPTED && place < QUARTREE_EDGES(n); place++)
+        totals[place] *= 256;
+    return reply;
+}
+
+#elif FAULT == 170 /* look_all: for leaf 0's edge the total of the one before */
+LOOK_ALL(quartree_look_all)
+{
+    uint64_t reply = real_look_all(n, poll, listing, len, table, cells, new_table, new_cells, totals, room);
+    if (reply == QUARTREE_ACCEPTED)
+        totals[QUARTREE_EDGES(n) - 1] = totals[QUARTREE_EDGES(n) - 2];
+    return reply;
+}
+
+#elif FAULT == 171 /* look_all: leaf 0's edge first */
+LOOK_ALL(quartree_look_all)
+{
+    uint64_t reply = real_look_all(n, poll, listing, len, table, cells, new_table, new_cells, totals, room);
+    if (reply == QUARTREE_ACCEPTED) {
+        uint64_t last = totals[QUARTREE_EDGES(n) - 1];
+        memmove(totals + 1, totals, (QUARTREE_EDGES(n) - 1) * sizeof *totals);
+        totals[0] = last;
+    }
+    return reply;
+}
+
+#elif FAULT == 172 /* look_all: the total behind the last cleared */
+LOOK_ALL(quartree_look_all)
+{
+    uint64_t reply = real_look_all(n, poll, listing, len, table, cells, new_table, new_cells, totals, room);
+    if (reply == QUARTREE_ACCEPTED && room > QUARTREE_EDGES(n))
+        totals[QUARTREE_EDGES(n)] = 0;
+    return reply;
+}
+
+#elif FAULT == 173 /* look_all: the totals cleared before the judgement */
+LOOK_ALL(quartree_look_all)
+{
+    memset(totals, 0, room * sizeof *totals);
+    return real_look_all(n, poll, listing, len, table, cells, new_table, new_cells, totals, room);
+}
+
+#elif FAULT == 174 /* look_all: the room judged as an input, which has to be exact */
+LOOK_ALL(quartree_look_all)
+{
+    int wide = n >= QUARTREE_LEAST_LEAVES && n <= QUARTREE_MOST_LEAVES && room > QUARTREE_EDGES(n);
+    return real_look_all(n, poll, listing, len, table, cells, new_table, new_cells, totals, wide ? 0 : room);
+}
+
+#elif FAULT == 175 /* look_all: the room in 16 bits */
+LOOK_ALL(quartree_look_all)
+{
+    return real_look_all(n, poll, listing, len, table, cells, new_table, new_cells, totals, (uint16_t)room);
+}
+
+#elif FAULT == 176 /* look_all: a longer new table taken */
+LOOK_ALL(quartree_look_all)
+{
+    size_t due = n <= QUARTREE_MOST_LEAVES ? (n + 1) * (n + 1) : new_cells;
+    new_cells = new_cells < due ? new_cells : due;
+    return real_look_all(n, poll, listing, len, table, cells, new_table, new_cells, totals, room);
+}
+
+#elif FAULT == 177 /* look_all: the word for the table turned round */
+LOOK_ALL(quartree_look_all)
+{
+    return real_look_all(n, poll == 0, listing, len, table, cells, new_table, new_cells, totals, room);
 }
 #endif

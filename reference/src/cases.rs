@@ -7,6 +7,7 @@ use crate::chance::Chance;
 use crate::every::Every;
 use crate::graft::{self, Changed, Kept};
 use crate::guess::{self, Guess};
+use crate::look::{self, LookedAt};
 use crate::origin::{self, Origin, TreeRecord};
 use crate::part::{self, Cell, Lent};
 use crate::poll::{self, Record};
@@ -41,10 +42,12 @@ pub enum Kind {
     SetJoin,
     SetIntersect,
     SetEqual,
+    Look,
+    LookAll,
 }
 
 impl Kind {
-    pub const ALL: [Kind; 22] = [
+    pub const ALL: [Kind; 24] = [
         Kind::Check,
         Kind::Standardise,
         Kind::Restandardise,
@@ -67,6 +70,8 @@ impl Kind {
         Kind::SetJoin,
         Kind::SetIntersect,
         Kind::SetEqual,
+        Kind::Look,
+        Kind::LookAll,
     ];
 
     pub fn name(self) -> &'static str {
@@ -93,10 +98,13 @@ impl Kind {
             Kind::SetJoin => "set_join",
             Kind::SetIntersect => "set_intersect",
             Kind::SetEqual => "set_equal",
+            Kind::Look => "look",
+            Kind::LookAll => "look_all",
         }
     }
 
-    /// The refusals of the operation, in the order in which they are judged.
+    /// The refusals of the operation, in the order in which they are judged; looks judge a new table by 4 and 5 once
+    /// more, last of all.
     pub fn refusals(self) -> &'static [u64] {
         match self {
             Kind::Check => &[1, 2, 7, 8],
@@ -116,6 +124,8 @@ impl Kind {
             Kind::Graft | Kind::Prune => &[1, 2, 3, 7, 8, 4, 5, 20],
             Kind::SetJoin | Kind::SetIntersect => &[2, 3],
             Kind::SetEqual => &[2],
+            Kind::Look => &[1, 2, 7, 8, 4, 5, 20],
+            Kind::LookAll => &[1, 2, 3, 7, 8, 4, 5, 20],
         }
     }
 }
@@ -145,6 +155,8 @@ pub enum Case {
     SetJoin { a: Vec<u8>, b: Vec<u8>, room: usize },
     SetIntersect { a: Vec<u8>, b: Vec<u8>, room: usize },
     SetEqual { a: Vec<u8>, b: Vec<u8> },
+    Look(LookedAt),
+    LookAll(LookedAt),
 }
 
 /// What part and reference agree on: the reply, and the cells written, of one output after the other.
@@ -229,6 +241,8 @@ impl Case {
             Case::SetJoin { .. } => Kind::SetJoin,
             Case::SetIntersect { .. } => Kind::SetIntersect,
             Case::SetEqual { .. } => Kind::SetEqual,
+            Case::Look(_) => Kind::Look,
+            Case::LookAll(_) => Kind::LookAll,
         }
     }
 
@@ -419,6 +433,24 @@ impl Case {
                 a.unchanged()?;
                 b.unchanged()?;
                 settle(got, due.map(u64::from))
+            }
+            Case::Look(at) => {
+                let due = look::look(at);
+                look_at_look(at, &due)?;
+                let mut lent = part::LentLook::of(at, chance);
+                let got = part::look(at.n, at.poll, at.edge, &mut lent);
+                lent.unchanged()?;
+                settle(got, due)
+            }
+            Case::LookAll(at) => {
+                let due = look::look_all(at);
+                look_at_look_all(at, &due, chance)?;
+                let mut lent = part::LentLook::of(at, chance);
+                let mut totals = Lent::output("totals", at.room, chance);
+                let got = part::look_all(at.n, at.poll, &mut lent, &mut totals);
+                lent.unchanged()?;
+                let signed = |totals: Vec<u64>| totals.into_iter().map(|total| total as i64).collect();
+                settle_output(got, no_number(due.map(signed)), &totals)
             }
         }
     }
@@ -612,6 +644,31 @@ fn look_at_graft(kept: &Kept, due: &Answer<Changed>, chance: &mut Chance) -> Res
 fn look_at_prune(kept: &Kept, due: &Answer<Changed>, chance: &mut Chance) -> Result<(), String> {
     let Ok(Changed { record, table }) = due else { return Ok(()) };
     look_at_smaller(&Tree::from_listing(kept.n, &kept.listing), kept.named, &record.listing, table, chance)
+}
+
+/// A copy grafted and the gaps added up give the same total. Where grafting is refused, so is the look, and alike
+/// unless the new table's size is wrong.
+fn look_at_look(at: &LookedAt, due: &Answer<u64>) -> Result<(), String> {
+    match (graft::graft(&at.copy()), due) {
+        (_, Err(Refusal::LeafCount | Refusal::InputLength)) => Ok(()),
+        (Err(refusal), _) => agreed(*due == Err(refusal), "refusal of a look and of a graft"),
+        (Ok(changed), Ok(total)) => {
+            let gap = guess::total_gap(at.n + 1, at.poll, &at.new_table, &changed.record.listing);
+            agreed(gap == *total, "gaps of a grafted copy")
+        }
+        (Ok(_), Err(refusal)) => {
+            let of_new_table = table::judge_cells(at.n + 1, &at.new_table);
+            agreed(of_new_table == Err(*refusal), "refusal of a look alone")
+        }
+    }
+}
+
+/// What is said of all edges is what a look says of one, refusals too but for a short output.
+fn look_at_look_all(at: &LookedAt, due: &Answer<Vec<u64>>, chance: &mut Chance) -> Result<(), String> {
+    let edge = due.as_ref().map_or(1, |totals| chance.between(1, totals.len()));
+    let of_edge = due.as_ref().map(|totals| totals[edge - 1]).map_err(|&refusal| refusal);
+    agreed(due.as_ref().map_or(true, |totals| totals.len() == at.edges()), "a total for every edge")?;
+    agreed(of_edge == Err(Refusal::OutputShort) || of_edge == look::look(&at.on(edge)), "total of one edge of all")
 }
 
 /// The words of a set: leaf k is bit k mod 64 of word k div 64.

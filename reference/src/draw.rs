@@ -6,10 +6,12 @@
 
 use crate::cases::{Case, Kind};
 use crate::chance::Chance;
-use crate::graft::Kept;
+use crate::graft::{without_leaf, Kept};
+use crate::look::LookedAt;
 use crate::merge::finished_list;
 use crate::part::Cell;
 use crate::poll::{poll, records_of, Record, LAST_CODE};
+use crate::refuse::judge_table_count;
 use crate::sets::{set_of, SET_BYTES, SET_LEAVES};
 use crate::table::{above_diagonal, add_quartet, of_tree, pairs_of, put, quartets, scaled, times, COUNTS, POLL};
 use crate::texts;
@@ -127,6 +129,8 @@ pub fn any_case(kind: Kind, chance: &mut Chance) -> Case {
             let [a, b] = lent_sets(chance);
             Case::SetEqual { a, b }
         }
+        Kind::Look => Case::Look(lent_looked_at(chance)),
+        Kind::LookAll => Case::LookAll(lent_looked_at(chance)),
     }
 }
 
@@ -175,6 +179,21 @@ fn lent_kept_count(chance: &mut Chance) -> usize {
         60 => chance.between(33, 64),
         61..=69 => chance.between(15, 32),
         70..=149 => chance.between(8, 14),
+        _ => chance.between(3, 7),
+    }
+}
+
+/// The leaf count of a tree that is looked at, as often as it has edges: mostly a small one.
+fn lent_look_count(poll: u32, chance: &mut Chance) -> usize {
+    let bad = match poll {
+        COUNTS => [0, 1, 2, 2, 128, 128, 129, 130, 256, 65_540, (1 << 32) + 5, usize::MAX],
+        _ => [0, 2, 2, 32, 32, 33, 127, 128, 129, 259, (1 << 32) + 4, usize::MAX],
+    };
+    match chance.below(1000) {
+        0..=59 => chance.of(&bad),
+        60 => 31,
+        61..=64 => chance.between(16, 24),
+        65..=89 => chance.between(8, 10),
         _ => chance.between(3, 7),
     }
 }
@@ -596,12 +615,15 @@ fn spoil_table(n: usize, cells: &mut Vec<u32>, chance: &mut Chance) {
 
 /// A tree in any listing and its table, spoilt or not, with what is named and room for a result of so many leaves.
 fn lent_kept(n: usize, named: usize, result: usize, chance: &mut Chance) -> Kept {
-    let (mut listing, mut table) = match n {
-        3..=128 => {
-            let tree = any_tree(n, chance);
-            (any_listing(&tree, chance), kept_table(&tree, chance))
-        }
-        _ => (vec![1; listing_length(n, chance)], vec![0; table_length(n, chance)]),
+    let tree = is_good(n).then(|| any_tree(n, chance));
+    lent_with(tree.as_ref(), n, named, result, chance)
+}
+
+/// The same of this tree, if there is one of so many leaves.
+fn lent_with(tree: Option<&Tree>, n: usize, named: usize, result: usize, chance: &mut Chance) -> Kept {
+    let (mut listing, mut table) = match tree {
+        Some(tree) => (any_listing(tree, chance), kept_table(tree, chance)),
+        None => (vec![1; listing_length(n, chance)], vec![0; table_length(n, chance)]),
     };
     if chance.one_in(2) {
         spoil_listing(n, &mut listing, chance);
@@ -622,6 +644,53 @@ fn kept_table(tree: &Tree, chance: &mut Chance) -> Vec<u32> {
         _ => {}
     }
     cells
+}
+
+/// A tree and its table, spoilt or not, with a new strain's table, spoilt or not, and an edge that is mostly there.
+fn lent_looked_at(chance: &mut Chance) -> LookedAt {
+    let poll = lent_word(chance);
+    let n = lent_look_count(poll, chance);
+    let (grown, edges) = (n.wrapping_add(1), 2 * n.clamp(3, 128) - 3);
+    let counted = is_good(n) && judge_table_count(grown, poll).is_ok();
+    let grafted = counted.then(|| any_tree(grown, chance));
+    let tree = grafted.as_ref().map(|grafted| without_leaf(grafted, n));
+    let mut new_table = match grafted {
+        Some(grafted) => new_table(&grafted, poll, chance),
+        None => vec![0; table_length(grown, chance)],
+    };
+    let edge = lent_number(edges, chance).wrapping_add(1);
+    let Kept { listing, table, .. } = lent_with(tree.as_ref(), n, edge, grown, chance);
+    if chance.one_in(2) {
+        spoil_table(grown, &mut new_table, chance);
+    }
+    LookedAt { n, poll, listing, table, edge, new_table, room: lent_room(edges, chance) }
+}
+
+/// A new strain's table by the caller's word for it: the grafted tree's, or that with a cell or a leaf's cells off; a
+/// rough one; one of cells of any value; or the grafted tree's of counts, whatever the word is.
+fn new_table(grafted: &Tree, poll: u32, chance: &mut Chance) -> Vec<u32> {
+    let (n, own) = (grafted.leaves, of_tree(grafted));
+    let mut cells = scaled(&own, times(poll));
+    match chance.below(9) {
+        0 | 1 => change_cell(&mut cells, n, chance),
+        2 => shift_row(&mut cells, n, chance),
+        3 | 4 => return scaled(&rough_table(n, chance), times(poll)),
+        5 => fill(&mut cells, n, || u32::any(chance)),
+        6 => return own,
+        _ => {}
+    }
+    cells
+}
+
+/// Tables for a look besides the grafted tree's own, with the caller's word for each: that with a cell off, rough ones,
+/// and one of the greatest cells.
+pub fn new_tables(grafted: &Tree, chance: &mut Chance) -> Vec<(u32, Vec<u32>)> {
+    let (n, mut off) = (grafted.leaves, of_tree(grafted));
+    change_cell(&mut off, n, chance);
+    let mut greatest = vec![0; n * n];
+    fill(&mut greatest, n, || u32::MAX);
+    let sixths = scaled(&rough_table(n, chance), times(POLL));
+    vec![(COUNTS, off), (COUNTS, rough_table(n, chance)), (POLL, sixths), (chance.of(&[COUNTS, POLL]), greatest)]
 }
 
 /// A finished list of eligible merges of the table, each subtree named by any of its leaves, filled up to n−1 steps.

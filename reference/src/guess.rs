@@ -59,7 +59,7 @@ pub fn merged_by_means(n: usize, poll: u32, table: &[u32]) -> (Tree, u64) {
 }
 
 /// The total gap between a table and a tree: the sum over i < j of the gap's size.
-fn total_gap(n: usize, poll: u32, table: &[u32], listing: &[u16]) -> u64 {
+pub fn total_gap(n: usize, poll: u32, table: &[u32], listing: &[u16]) -> u64 {
     let gaps = gap(n, poll, table, listing, n * n).expect("nothing is wrong with the table and the tree");
     above_diagonal(n).map(|(i, j)| gaps[i * n + j].unsigned_abs()).sum()
 }

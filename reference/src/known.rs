@@ -5,10 +5,11 @@
 use crate::cases::{Case, Outcome};
 use crate::draw::{NO_ORIGINS, SET_LENGTHS};
 use crate::graft::Kept;
+use crate::look::LookedAt;
 use crate::poll::Record;
 use crate::sets::SET_BYTES;
 use crate::sheet;
-use crate::table::{of_tree, put, quartets, scaled, COUNTS, POLL};
+use crate::table::{of_tree, put, quartets, scaled, times, COUNTS, POLL};
 use crate::tree::Tree;
 
 /// What the paper says of a case.
@@ -172,6 +173,10 @@ pub fn known_cases() -> Vec<Known> {
     cases.extend(refused_changes());
     cases.extend(sets());
     cases.extend(set_sizes());
+    cases.extend(looks());
+    cases.extend(totals_of_all());
+    cases.extend(look_counts());
+    cases.extend(refused_looks());
     cases
 }
 
@@ -397,6 +402,8 @@ fn counts() -> Vec<Known> {
             Case::Import { sheet: trailer(n as u16, 0), text: P7_TEXT.into(), room },
             Case::Graft(kept(n, &vec![1; 2 * (n - 2)], vec![0; n * n], 1)),
             Case::Prune(kept(n, &vec![1; 2 * (n - 2)], vec![0; n * n], 1)),
+            Case::Look(looked_at(kept(n, &vec![1; 2 * (n - 2)], vec![0; n * n], 1), vec![0; (n + 1) * (n + 1)])),
+            Case::LookAll(looked_at(kept(n, &vec![1; 2 * (n - 2)], vec![0; n * n], 1), vec![0; (n + 1) * (n + 1)])),
         ];
         known.extend(cases.map(|case| Known { name: "leaf counts 2 and 129", case, due: Due::Refused(1, 0) }));
     }
@@ -450,6 +457,12 @@ fn lengths() -> Vec<Known> {
         Case::SetEqual { a: longer(&set), b: set.clone() },
         Case::SetEqual { a: set.clone(), b: longer(&set) },
         Case::SetEqual { a: longer(&set), b: longer(&set) },
+        Case::Look(looked_at(kept(n, &longer(&listing), table.clone(), 1), p8())),
+        Case::Look(looked_at(kept(n, &listing, longer(&table), 1), p8())),
+        Case::Look(looked_at(kept(n, &listing, table.clone(), 1), longer(&p8()))),
+        Case::LookAll(looked_at(kept(n, &longer(&listing), table.clone(), 1), p8())),
+        Case::LookAll(looked_at(kept(n, &listing, longer(&table), 1), p8())),
+        Case::LookAll(looked_at(kept(n, &listing, table.clone(), 1), longer(&p8()))),
     ];
     let sheets = [
         Case::CheckSheet { sheet: longer(&PAPER_SHEET) },
@@ -466,6 +479,7 @@ fn lengths() -> Vec<Known> {
         |n, listing: &[u16], table, named| Kept { room: FAR, table_room: FAR, ..kept(n, listing, table, named) };
     let rooms = [
         (Case::Graft(roomy(4, &P3_LISTING, p3(), 3)), changed(&P7_LISTING, &table)),
+        (Case::LookAll(looked_at(roomy(4, &P3_LISTING, p3(), 0), p7())), Due::Written(0, P7_TOTALS.to_vec())),
         (Case::Prune(roomy(n, &listing, table.clone(), 0)), changed(&P3_LISTING, &p3())),
         (Case::Export { sheet: PAPER_SHEET.into(), listing: listing.clone(), room: FAR }, export),
         (Case::Import { sheet: PAPER_SHEET.into(), text, room: FAR }, Due::Written(IMPORTED, rows.clone())),
@@ -632,6 +646,180 @@ fn refused_changes() -> Vec<Known> {
     let fitting = Kept { room: 4, table_room: 16, ..p7_kept() };
     cases.push((Case::Prune(fitting), changed(&P3_LISTING, &p3())));
     cases.into_iter().map(|(case, due)| Known { name: "what is wrong with a change", case, due }).collect()
+}
+
+/// What is looked at for a new table of counts: the tree and the table kept beside it, and the edge that is named.
+fn looked_at(kept: Kept, new_table: Vec<u32>) -> LookedAt {
+    let Kept { n, listing, table, named, room, .. } = kept;
+    LookedAt { n, poll: COUNTS, listing, table, edge: named, new_table, room }
+}
+
+/// The same for a poll's table.
+fn polled(at: LookedAt, poll: u32) -> LookedAt {
+    LookedAt { poll, new_table: scaled(&at.new_table, 6), ..at }
+}
+
+/// The total that a look tells.
+fn total(told: u64) -> Due {
+    Due::Written(told, Vec::new())
+}
+
+/// P3's tree looked at for P7's table, of which it wants leaf 4 on edge 3.
+fn p3_for_p7(edge: usize) -> LookedAt {
+    looked_at(kept(4, &P3_LISTING, p3(), edge), p7())
+}
+
+/// What the edges of P3's tree tell then.
+const P7_TOTALS: [i64; 5] = [14, 8, 0, 8, 14];
+
+/// Worked looks at one edge.
+fn looks() -> Vec<Known> {
+    let (top, quartets_of_128) = (u64::from(u32::MAX), 10_668_000);
+    let look = |name, at, due| Known { name, case: Case::Look(at), due };
+    let three = |edge, new_table| looked_at(kept(3, &[1, 2], vec![0; 9], edge), new_table);
+    let p7_edge = |name, edge, due| look(name, looked_at(kept(5, &P7_LISTING, p7(), edge), p8()), due);
+    let p8_grafted = of_tree(&Tree::from_listing(7, &[2, 3, 7, 6, 4, 5, 8, 9, 1, 10]));
+    let p8_for = |listing: &[u16], edge| looked_at(kept(6, listing, p8(), edge), p8_grafted.clone());
+    let (p8_turned, largest) = ([4, 5, 2, 3, 6, 7, 1, 8], of_tree(&Tree::from_listing(127, &comb(127))));
+    let of_largest = |edge, new_table| looked_at(kept(127, &comb(127), largest.clone(), edge), new_table);
+    let mut known = vec![
+        look("P3's table at its edge of three leaves", three(2, p3()), total(0)),
+        look("P3's table at another edge", three(1, p3()), total(4)),
+        look("zeros at an edge of three leaves", three(3, table(4, &[], 0)), total(2)),
+        look("a look for more than 32 bits", three(3, table(4, &[], u32::MAX)), total(6 * top - 2)),
+        look("no edge 0 to look at", three(0, p3()), Due::Refused(20, 0)),
+        look("no edge 4 of three leaves to look at", three(4, p3()), Due::Refused(20, 0)),
+        look("an edge of P8's tree looked at", p8_for(&P8_LISTING, 6), total(0)),
+        look("the same edge of another listing", p8_for(&p8_turned, 6), total(0)),
+        p7_edge("no edge 8 of five leaves to look at", 8, Due::Refused(20, 0)),
+        p7_edge("no edge to look at in 16 bits", FAR + 1, Due::Refused(20, 0)),
+        p7_edge("no edge to look at in 32 bits", (1 << 32) + 1, Due::Refused(20, 0)),
+        p7_edge("no edge to look at at all", usize::MAX, Due::Refused(20, 0)),
+        look("the last leaf looked at", of_largest(126, of_tree(&Tree::from_listing(128, &comb(128)))), total(0)),
+        look("zeros at an edge of 127 leaves", of_largest(1, vec![0; 128 * 128]), total(2 * quartets_of_128)),
+        look(
+            "the greatest total of a look",
+            of_largest(251, table(128, &[], u32::MAX)),
+            total(8_128 * top - 2 * quartets_of_128),
+        ),
+    ];
+    for (edge, told) in (1..).zip(P7_TOTALS) {
+        known.push(look("P3's tree for P7's table", p3_for_p7(edge), total(told as u64)));
+        known.push(look("P3's tree for a poll's table", polled(p3_for_p7(edge), POLL), total(6 * told as u64)));
+    }
+    known
+}
+
+/// Worked looks at all edges.
+fn totals_of_all() -> Vec<Known> {
+    let all = |name, at, totals: &[i64]| Known { name, case: Case::LookAll(at), due: Due::Written(0, totals.to_vec()) };
+    let three = |new_table| looked_at(kept(3, &[1, 2], vec![0; 9], 0), new_table);
+    let zeros = |poll| LookedAt { poll, new_table: vec![0; 25], ..p3_for_p7(0) };
+    let mut known = vec![
+        all("three leaves for P3's table", three(p3()), &[4, 0, 4]),
+        all("three leaves for six times P3's table", polled(three(p3()), POLL), &[24, 0, 24]),
+        all("three leaves for P3's table as a poll's", LookedAt { poll: POLL, ..three(p3()) }, &[14, 10, 14]),
+        all("three leaves for six times P3's as counts", three(scaled(&p3(), 6)), &[14, 10, 14]),
+        all("P3's tree for zeros", zeros(COUNTS), &[10; 5]),
+        all("P3's tree for a poll's zeros", zeros(POLL), &[60; 5]),
+        all("all edges of P3's tree for P7's table", p3_for_p7(0), &P7_TOTALS),
+        all("room for five totals", LookedAt { room: 5, ..p3_for_p7(0) }, &P7_TOTALS),
+        Known {
+            name: "room for four totals",
+            case: Case::LookAll(LookedAt { room: 4, ..p3_for_p7(0) }),
+            due: Due::Refused(3, 0),
+        },
+    ];
+    let sixths = P7_TOTALS.map(|told| 6 * told);
+    known.extend(POLLS.map(|poll| all("all edges of P3's tree for a poll's", polled(p3_for_p7(0), poll), &sixths)));
+    known
+}
+
+/// A tree is looked at with 3 to 127 leaves, for a poll's table with 3 to 31; and 1 is judged before 2.
+fn look_counts() -> Vec<Known> {
+    let mut cases = Vec::new();
+    for (n, poll) in [(3, POLL), (31, POLL), (32, COUNTS)] {
+        let [own, grafted] = [n, n + 1].map(|leaves| of_tree(&Tree::from_listing(leaves, &comb(leaves))));
+        let new_table = scaled(&grafted, times(poll));
+        let at = LookedAt { poll, ..looked_at(kept(n, &comb(n), own, n - 1), new_table) };
+        cases.push((Case::LookAll(at.clone()), Due::Cells(0, vec![(n - 2, 0)])));
+        cases.push((Case::Look(at), total(0)));
+    }
+    for (n, poll) in [(128, COUNTS), (2, POLL), (32, POLL), (33, POLL), (127, POLL), (128, POLL)] {
+        let listing = if n == 2 { Vec::new() } else { comb(n) };
+        let own = if n == 2 { vec![0; 4] } else { of_tree(&Tree::from_listing(n, &listing)) };
+        for new_cells in [0, (n + 1) * (n + 1)] {
+            let at = LookedAt { poll, ..looked_at(kept(n, &listing, own.clone(), 1), vec![0; new_cells]) };
+            cases.push((Case::Look(at.clone()), Due::Refused(1, 0)));
+            cases.push((Case::LookAll(at), Due::Refused(1, 0)));
+        }
+    }
+    cases.into_iter().map(|(case, due)| Known { name: "leaf counts of a look", case, due }).collect()
+}
+
+/// Something that is wrong with a look: number, figure, and how it comes about.
+type WrongLook = (u64, u64, Box<dyn Fn(&mut LookedAt)>);
+
+/// What can be wrong with the size of the new table, and with its cells.
+const WRONG_SIZES: [(u64, fn(&mut LookedAt)); 4] = [
+    (1, |at| (at.n, at.poll) = (32, POLL)),
+    (2, |at| at.new_table.truncate(25)),
+    (2, |at| at.new_table.truncate(35)),
+    (2, |at| at.new_table.push(0)),
+];
+const WRONG_CELLS: [(u64, u64, fn(&mut LookedAt)); 5] = [
+    (4, 2, |at| at.new_table[2 * 6 + 2] = 1),
+    (4, 5, |at| at.new_table[5 * 6 + 5] = u32::MAX),
+    (5, 5, |at| at.new_table[5 * 6] = 0),
+    (5, 256 + 3, |at| at.new_table[3 * 6 + 1] = 2),
+    (5, 4 * 256 + 5, |at| at.new_table[4 * 6 + 5] = 1 << 16),
+];
+
+/// What is wrong with a change is wrong with a look, too.
+fn wrong_kept(&(number, figure, spoil): &Wrong) -> WrongLook {
+    let spoil_kept = move |at: &mut LookedAt| {
+        let mut kept = Kept { room: at.room, ..at.copy() };
+        spoil(&mut kept);
+        *at = LookedAt { poll: at.poll, ..looked_at(kept, at.new_table.clone()) };
+    };
+    (number, figure, Box::new(spoil_kept))
+}
+
+/// All that can be wrong with a look, in the order in which it is judged: 1, 2, then the rest of what can be wrong with
+/// a change, and last the cells of the new table.
+fn wrong_looks() -> Vec<WrongLook> {
+    let sizes = WRONG_SIZES.map(|(number, spoil)| -> WrongLook { (number, 0, Box::new(spoil)) });
+    let cells = WRONG_CELLS.map(|(number, figure, spoil)| -> WrongLook { (number, figure, Box::new(spoil)) });
+    let mut wrong: Vec<WrongLook> = WRONG.iter().map(wrong_kept).chain(sizes).collect();
+    wrong.sort_by_key(|&(number, ..)| number.min(3));
+    wrong.extend(cells);
+    wrong
+}
+
+/// Each of these alone and with each that is judged later, as far as it is in what a look is given: one edge is looked
+/// at without a room, and all without an edge; for tables of counts and for polls'.
+fn refused_looks() -> Vec<Known> {
+    type Given = fn(LookedAt) -> LookedAt;
+    let edge: (fn(LookedAt) -> Case, Given) = (Case::Look, |at| LookedAt { room: 0, ..at });
+    let all: (fn(LookedAt) -> Case, Given) = (Case::LookAll, |at| LookedAt { edge: 0, ..at });
+    let mut known = Vec::new();
+    for ((case, given), poll) in [(edge, COUNTS), (edge, POLL), (all, COUNTS), (all, POLL)] {
+        let spoilt = |spoils: &[&WrongLook]| {
+            let mut at = LookedAt { poll, ..looked_at(kept(5, &P7_LISTING, p7(), 4), p8()) };
+            spoils.iter().for_each(|(_, _, spoil)| spoil(&mut at));
+            given(at)
+        };
+        let mut wrong = wrong_looks();
+        wrong.retain(|wrong| spoilt(&[wrong]) != spoilt(&[]));
+        for (place, first) in wrong.iter().enumerate() {
+            known.extend(wrong[place..].iter().map(|later| Known {
+                name: "what is wrong with a look",
+                case: case(spoilt(&[later, first])),
+                due: Due::Refused(first.0, first.1),
+            }));
+        }
+    }
+    known
 }
 
 /// A set of which some bytes are named; the others are 0.

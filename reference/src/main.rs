@@ -2,12 +2,13 @@
 //!
 //! `reference [N [SEED]]` compares, in this order: the paper's own cases; every tree of 3 to 6 leaves, its records also
 //! handed from one operation to the next, and one of every shape of 32, 127 and 128; the polls of trees' own pairings;
-//! guesses of small tables and of rough ones; grafts and prunes of large trees, and a walk of them; every listing,
-//! question, list of proposals and poll of very few, every text of up to six bytes and every text close to a right one,
-//! leaf sets of every two leaves and of every two bytes, and those that differ in one leaf; and N rounds (20,000 if not
-//! given) from SEED on (1 if not given), each with one case of every kind; what these guesses make is handed on.
-//! It also tries demand 3 on the reference's own merging, over every finished list of small tables. The first
-//! difference stops it.
+//! guesses of small tables and of rough ones; grafts and prunes of large trees, and a walk of them; looks at every edge
+//! of every tree of 3 to 6 leaves, and at edges of large ones, held against grafts and gaps; every listing, question,
+//! list of proposals and poll of very few, every text of up to six bytes and every text close to a right one, leaf sets
+//! of every two leaves and of every two bytes, and those that differ in one leaf; and N rounds (20,000 if not given)
+//! from SEED on (1 if not given), each with one case of every kind; what these guesses make and these looks tell is
+//! handed on. It also tries demand 3 on the reference's own merging, over every finished list of small tables. The
+//! first difference stops it.
 
 mod cases;
 mod chance;
@@ -16,6 +17,8 @@ mod every;
 mod graft;
 mod guess;
 mod known;
+mod look;
+mod looks;
 mod merge;
 mod nested;
 mod newick;
@@ -99,6 +102,8 @@ impl Comparison {
         self.guesses()?;
         self.large_changes()?;
         self.walk()?;
+        self.every_look()?;
+        self.large_looks()?;
         self.every_input()?;
         if !self.noted {
             let tried = self.every.try_demand_3(DRAWN_TABLES)?;
@@ -111,7 +116,7 @@ impl Comparison {
                 let case = draw::any_case(kind, &mut chance);
                 let origin = format!("seed {seed}");
                 let put = match kind {
-                    Kind::Guess => self.put_and_hand_on(&case, &origin, &mut chance),
+                    Kind::Guess | Kind::Look => self.put_and_hand_on(&case, &origin, &mut chance),
                     _ => self.put(&case, &origin, &mut chance).map(drop),
                 };
                 put.map_err(|difference| format!("{difference}\nrepeat with: reference 1 {seed}"))?;
@@ -134,7 +139,7 @@ impl Comparison {
     }
 
     /// Puts one case, and hands on what it makes.
-    fn put_and_hand_on(&mut self, case: &Case, origin: &str, chance: &mut Chance) -> Result<(), String> {
+    pub fn put_and_hand_on(&mut self, case: &Case, origin: &str, chance: &mut Chance) -> Result<(), String> {
         let made = self.put(case, origin, chance)?;
         self.hand_on(case, made, origin, chance)
     }
@@ -188,6 +193,8 @@ impl Comparison {
             Case::Splits { n, listing, .. } => return self.hand_on_splits(*n, listing, made, origin, chance),
             Case::Graft(kept) => return self.hand_on_change(kept, kept.n + 1, made, origin, chance),
             Case::Prune(kept) => return self.hand_on_change(kept, kept.n - 1, made, origin, chance),
+            Case::Look(at) => return self.hand_on_look(at, made, origin, chance),
+            Case::LookAll(at) => return self.hand_on_look_all(at, made, origin, chance),
             _ => return Ok(()),
         };
         if made.reply & 0xFF != 0 {
@@ -202,9 +209,7 @@ impl Comparison {
                 _ => Ok(()),
             };
         };
-        let gap = Case::Gap { n, poll, table: table.clone(), listing: listing.clone(), room: n * n };
-        let gaps = self.put(&gap, origin, chance)?.written;
-        let sum: u64 = above_diagonal(n).map(|(i, j)| gaps[i * n + j].unsigned_abs()).sum();
+        let sum = self.sum_of_gaps(n, poll, &table, &listing, origin, chance)?;
         if sum != total || (mark == REBUILT) != (sum == 0) {
             return Err(format!("{origin}: the gaps of a record marked {mark} add up to {sum}, told is {total}"));
         }
@@ -212,6 +217,21 @@ impl Comparison {
             Case::Guess { .. } => self.rebuild_guess(n, poll, table, listing, mark, origin, chance),
             _ => Ok(()),
         }
+    }
+
+    /// The sum over i < j of the size of the part's gap between a table and a tree.
+    pub fn sum_of_gaps(
+        &mut self,
+        n: usize,
+        poll: u32,
+        table: &[u32],
+        listing: &[u16],
+        origin: &str,
+        chance: &mut Chance,
+    ) -> Result<u64, String> {
+        let gap = Case::Gap { n, poll, table: table.to_vec(), listing: listing.to_vec(), room: n * n };
+        let gaps = self.put(&gap, origin, chance)?.written;
+        Ok(above_diagonal(n).map(|(i, j)| gaps[i * n + j].unsigned_abs()).sum())
     }
 
     /// A record is the same when it is restandardised from any listing of its tree.

@@ -7,6 +7,7 @@
 //! reference with itself; a library built so stands in for the part, and with a fault put in it has to be found out.
 
 use crate::chance::Chance;
+use crate::look::LookedAt;
 use crate::poll::Record;
 use std::fmt::Debug;
 use std::ops::Range;
@@ -100,6 +101,29 @@ unsafe extern "C" {
     fn quartree_set_intersect(a: *const u8, a_len: usize, b: *const u8, b_len: usize, out: *mut u8, room: usize)
         -> u64;
     fn quartree_set_equal(a: *const u8, a_len: usize, b: *const u8, b_len: usize) -> u64;
+    fn quartree_look(
+        n: usize,
+        poll: u32,
+        listing: *const u16,
+        len: usize,
+        table: *const u32,
+        cells: usize,
+        edge: usize,
+        new_table: *const u32,
+        new_cells: usize,
+    ) -> u64;
+    fn quartree_look_all(
+        n: usize,
+        poll: u32,
+        listing: *const u16,
+        len: usize,
+        table: *const u32,
+        cells: usize,
+        new_table: *const u32,
+        new_cells: usize,
+        totals: *mut u64,
+        room: usize,
+    ) -> u64;
 }
 
 /// How many cells a guard has at least.
@@ -305,12 +329,53 @@ pub fn set_equal(a: &mut Lent<u8>, b: &mut Lent<u8>) -> u64 {
     unsafe { quartree_set_equal(a.pointer(), a.len(), b.pointer(), b.len()) }
 }
 
+/// What is lent to a look, at one edge or at all.
+pub struct LentLook {
+    listing: Lent<u16>,
+    table: Lent<u32>,
+    new_table: Lent<u32>,
+}
+
+impl LentLook {
+    pub fn of(at: &LookedAt, chance: &mut Chance) -> LentLook {
+        LentLook {
+            listing: Lent::input("listing", &at.listing, chance),
+            table: Lent::input("table", &at.table, chance),
+            new_table: Lent::input("new table", &at.new_table, chance),
+        }
+    }
+
+    /// Neither the tree nor a table has moved.
+    pub fn unchanged(&self) -> Result<(), String> {
+        self.listing.unchanged()?;
+        self.table.unchanged()?;
+        self.new_table.unchanged()
+    }
+}
+
+pub fn look(n: usize, poll: u32, edge: usize, lent: &mut LentLook) -> u64 {
+    let LentLook { listing, table, new_table } = lent;
+    let (children, cells, new_cells) = (listing.len(), table.len(), new_table.len());
+    let (listing, table, new_table) = (listing.pointer(), table.pointer(), new_table.pointer());
+    unsafe { quartree_look(n, poll, listing, children, table, cells, edge, new_table, new_cells) }
+}
+
+/// The totals are below 2^48, so read as signed numbers they are the same.
+pub fn look_all(n: usize, poll: u32, lent: &mut LentLook, totals: &mut Lent<i64>) -> u64 {
+    let LentLook { listing, table, new_table } = lent;
+    let (children, cells, new_cells, room) = (listing.len(), table.len(), new_table.len(), totals.len());
+    let (listing, table, new_table) = (listing.pointer(), table.pointer(), new_table.pointer());
+    let totals = totals.pointer().cast();
+    unsafe { quartree_look_all(n, poll, listing, children, table, cells, new_table, new_cells, totals, room) }
+}
+
 /// The entries made of the reference's own operations.
 #[cfg(own)]
 mod own {
     use crate::chance::Chance;
     use crate::graft::{graft, prune, Changed, Kept};
     use crate::guess::{self, Guess};
+    use crate::look::{look, look_all, LookedAt};
     use crate::origin::{restandardise, Origin, TreeRecord};
     use crate::poll::Record;
     use crate::refuse::{reply, Answer};
@@ -353,6 +418,21 @@ mod own {
         let table = answer.as_ref().map(|changed| changed.table.clone()).map_err(|&refusal| refusal);
         unsafe { give(table, out_table, table_room) };
         unsafe { give_record(answer.map(|changed| changed.record), out, room) }
+    }
+
+    /// What is looked at, as it is lent.
+    unsafe fn lent_looked_at(
+        (n, poll): (usize, u32),
+        (listing, len): (*const u16, usize),
+        (table, cells): (*const u32, usize),
+        edge: usize,
+        (new_table, new_cells): (*const u32, usize),
+        room: usize,
+    ) -> LookedAt {
+        let (listing, table) =
+            unsafe { (from_raw_parts(listing, len).to_vec(), from_raw_parts(table, cells).to_vec()) };
+        let new_table = unsafe { from_raw_parts(new_table, new_cells) }.to_vec();
+        LookedAt { n, poll, listing, table, edge, new_table, room }
     }
 
     fn own_choice() -> Chance {
@@ -622,5 +702,40 @@ mod own {
     pub unsafe extern "C" fn quartree_set_equal(a: *const u8, a_len: usize, b: *const u8, b_len: usize) -> u64 {
         let (a, b) = unsafe { (from_raw_parts(a, a_len), from_raw_parts(b, b_len)) };
         reply(sets::equal(a, b).map(u64::from))
+    }
+
+    #[no_mangle]
+    pub unsafe extern "C" fn quartree_look(
+        n: usize,
+        poll: u32,
+        listing: *const u16,
+        len: usize,
+        table: *const u32,
+        cells: usize,
+        edge: usize,
+        new_table: *const u32,
+        new_cells: usize,
+    ) -> u64 {
+        let new_table = (new_table, new_cells);
+        let at = unsafe { lent_looked_at((n, poll), (listing, len), (table, cells), edge, new_table, 0) };
+        reply(look(&at))
+    }
+
+    #[no_mangle]
+    pub unsafe extern "C" fn quartree_look_all(
+        n: usize,
+        poll: u32,
+        listing: *const u16,
+        len: usize,
+        table: *const u32,
+        cells: usize,
+        new_table: *const u32,
+        new_cells: usize,
+        totals: *mut u64,
+        room: usize,
+    ) -> u64 {
+        let new_table = (new_table, new_cells);
+        let at = unsafe { lent_looked_at((n, poll), (listing, len), (table, cells), 0, new_table, room) };
+        unsafe { give(look_all(&at), totals, room) }
     }
 }

@@ -2,8 +2,9 @@
 //!
 //! Sizes go first: 13, 1, 2, 14, 3. Then listings, child by child, 7 before 8; then 4 for the whole diagonal, then 5;
 //! records one by one, 10 before 11; names one by one, 15 before 16, and names end before the offset last; then 9;
-//! then 12, 6 or 20. Of texts 17, then 18, then 19 come last; only export judges 3 after all else. Every operation
-//! below judges in this order, by `?` on one judgement after the other.
+//! then 12, 6 or 20. Of texts 17, then 18, then 19 come last; only export judges 3 after all else, and only looks judge
+//! a second table, by 4 and 5 after 20. Every operation below judges in this order, by `?` on one judgement after the
+//! other.
 
 use crate::table::COUNTS;
 

@@ -14,7 +14,7 @@ use crate::{watch, Comparison};
 const STEPS: usize = 300;
 
 /// The tree and the table that a graft or a prune has made, unless it was refused.
-fn made_of(n: usize, made: &Outcome) -> Option<(Vec<u16>, Vec<u32>)> {
+pub fn made_of(n: usize, made: &Outcome) -> Option<(Vec<u16>, Vec<u32>)> {
     if made.reply & 0xFF != 0 {
         return None;
     }

@@ -1,6 +1,7 @@
 pub mod Bools
 pub mod Counts
 pub mod Sums
+pub mod BlockSums
 pub mod Lists
 pub mod Filling
 pub mod Searches

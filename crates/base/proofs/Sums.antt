@@ -4,17 +4,24 @@ use mathlib.Core.Logic.{_≢_}
 use mathlib.Core.Bool.{Bool, true, false, _&&_}
 use Prim.Native.Nat.{ℕ, zero, suc, _+_, _-_, _*_, _≤_, _<_}
 use native.Mathlib.Nat.{suc-mul, mul-le-mul-right, le-of-lt}
+use native.Mathlib.Numerals.{add-one}
 use native.Mathlib.Omega.{arith}
 use native.Mathlib.Decide.{decLt, ℕ-discrete}
-use borrow.Author.Tests.{lt-ltb, le-ltb}
-use lib.Dec.{ltb}
+use borrow.Author.Tests.{lt-ltb, le-ltb, ne-eqb}
+use lib.Dec.{ltb, eqb}
 use Rattle.base.specs.Numbers.{indicator, count-below, sum-below, pair-sum, distance}
+use Rattle.base.proofs.Bools.{eqb-same}
 use Rattle.base.proofs.Counts.{indicator-and}
 
 pub sum-ext : (n : ℕ) (f g : ℕ → ℕ) → ((k : ℕ) → k < n → f k ≡ g k) → sum-below n f ≡ sum-below n g
 unfolding sum-below
 sum-ext zero f g h = refl
 sum-ext (suc n) f g h = rw (sum-ext n f g (λ k l. h k (omega arith)), h n (omega arith))
+
+-- one number more
+pub sum-more : (n : ℕ) (f : ℕ → ℕ) → sum-below (n + 1) f ≡ sum-below n f + f n
+unfolding sum-below
+sum-more n f = rw (add-one n)
 
 -- a sum is 0 where each part is, and the other way round
 pub zero-sum : (n : ℕ) (f : ℕ → ℕ) → ((k : ℕ) → k < n → f k ≡ 0) → sum-below n f ≡ 0
@@ -57,6 +64,35 @@ sum-only (suc n) i f l h = elim (ℕ-discrete n i) [
   | yes e ↦ rw (← e) (omega (arith, zero-sum n f (λ k m. h k (λ d. omega arith))))
   | no d ↦ omega (arith, sum-only n i f (omega arith) h, h n d)
 ]
+
+-- the numbers in another order: π takes each number below n to one of its own, and ρ takes it back
+pub sum-permuted :
+    (n : ℕ) (f π ρ : ℕ → ℕ) → ((k : ℕ) → k < n → π k < n) → ((j k : ℕ) → j < n → k < n → π j ≡ π k → j ≡ k)
+    → ((k : ℕ) → k < n → (ρ k < n) × (π (ρ k) ≡ k)) → sum-below n (λ q. f (π q)) ≡ sum-below n f
+sum-permuted n f π ρ below once back =
+    sum-ext n _ _ (λ q l. sym (column q l)) ∙ sum-swap n n at ∙ sum-ext n _ _ row
+  where
+    -- f k where π takes q to k
+    at : ℕ → ℕ → ℕ
+    at q k = indicator (ltb q n && eqb k (π q)) (f k)
+
+    column : (q : ℕ) → q < n → sum-below n (at q) ≡ f (π q)
+    column q l =
+        sum-only n (π q) (at q) (below q l) (λ k d. rw (lt-ltb q n l, ne-eqb k (π q) d))
+        ∙ rw (lt-ltb q n l, eqb-same (π q))
+
+    other : (k : ℕ) → k < n → (q : ℕ) → q ≢ ρ k → at q k ≡ 0
+    other k l q d = elim (decLt q n) [
+      | yes m ↦
+          let r = back k l in
+          rw (ne-eqb k (π q) (λ e. d (once q (ρ k) m (r .0) (sym e ∙ sym (r .1)))), lt-ltb q n m)
+      | no g ↦ rw (le-ltb q n (omega arith))
+    ]
+
+    row : (k : ℕ) → k < n → sum-below n (λ q. at q k) ≡ f k
+    row k l =
+        let r = back k l in
+        sum-only n (ρ k) (λ q. at q k) (r .0) (other k l) ∙ rw (r .1, lt-ltb (ρ k) n (r .0), eqb-same k)
 
 -- how many pass, as a sum
 pub count-sum : (n : ℕ) (f : ℕ → Bool) → count-below n f ≡ sum-below n (λ k. indicator (f k) 1)
@@ -127,6 +163,11 @@ module _ (n : ℕ) (f : ℕ → ℕ → ℕ) where
   pub pair-sum-add : (g : ℕ → ℕ → ℕ) → pair-sum n (λ i j. f i j + g i j) ≡ pair-sum n f + pair-sum n g
   unfolding pair-sum
   pair-sum-add g = sum-ext n _ _ (λ j m. sum-add j (λ i. f i j) (λ i. g i j)) ∙ sum-add n _ _
+
+  -- with n itself: its row is added
+  pub pair-sum-more : pair-sum (n + 1) f ≡ pair-sum n f + sum-below n (λ i. f i n)
+  unfolding pair-sum sum-below
+  pair-sum-more = rw (add-one n)
 
   -- as a sum over both numbers
   pub pair-sum-two : pair-sum n f ≡ sum2 n (λ p q. indicator (ltb p q) (f p q))

@@ -22,7 +22,7 @@ use Rattle.spanned_trees.proofs.Prunes.{pruned-only}
 use Rattle.grafted_trees.specs.Grafts.{names-edge, put-on, with-leaf, grafted}
 use Rattle.grafted_trees.specs.inner.EdgeNumbers.{edges-at}
 use Rattle.grafted_trees.proofs.EdgeNumbers.{edge-once, edge-none}
-use Rattle.grafted_trees.proofs.Grafts.{with-leaf-none, grafted-paired}
+use Rattle.grafted_trees.proofs.Grafts.{with-leaf-none, own-edge, put-above, grafted-paired}
 use Rattle.change_answers.proofs.GraftsPruned.{lowered-low}
 
 -- The subtree S without its leaf x, and the edge on which x was: put on there, it makes S again, if no other edge has
@@ -35,26 +35,6 @@ record WithoutLeaf (x : ℕ) (S : Tree) (r : ℕ) : Type 0 where
   occurs : (k : ℕ) → occurrences k S ≡ occurrences k tree + indicator (eqb k x) 1
   there : 1 ≤ edges-at edge tree r
   put-back : edges-at edge tree r ≡ 1 → with-leaf x edge tree r ≡ S
-
--- a subtree has its own edge
-own-edge : (A : Tree) (r : ℕ) → 1 ≤ edges-at (number-in A r) A r
-unfolding edges-at number-in
-own-edge (leaf i) r = rw (eqb-same i) (omega arith)
-own-edge (node A B) r = rw (eqb-same (r + (size A + size B) - 2)) (omega arith)
-
-put-above :
-    (x : ℕ) (A : Tree) (r : ℕ) → edges-at (number-in A r) A r ≡ 1
-    → with-leaf x (number-in A r) A r ≡ node A (leaf x)
-unfolding edges-at number-in with-leaf put-on
-put-above x (leaf i) r h = rw (eqb-same i)
-put-above x (node A B) r h =
-    let e = r + (size A + size B) - 2 in
-    let none = rw (eqb-same e) at h in
-    rw (
-      eqb-same e,
-      with-leaf-none x e A r (omega (arith, none)),
-      with-leaf-none x e B (r + size A - 1) (omega (arith, none)),
-    )
 
 -- the leaf is in the first child, in the second, or is the second
 in-first :

@@ -1,4 +1,4 @@
 mod Signed
-mod GapAnswers
+pub mod GapAnswers
 pub mod GapLaws
 pub mod LowestGaps

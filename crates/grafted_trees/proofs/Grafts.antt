@@ -85,6 +85,26 @@ with-leaf-none x e (node A B) r h =
     let not-here = no-indicator (eqb e (number-in (node A B) r)) (omega arith) in
     rw (not-here, with-leaf-none x e A r (omega arith), with-leaf-none x e B (r + size A - 1) (omega arith))
 
+-- a subtree has its own edge; on it, the leaf stands beside the subtree, if no other edge has that number
+pub own-edge : (A : Tree) (r : ℕ) → 1 ≤ edges-at (number-in A r) A r
+unfolding edges-at number-in
+own-edge (leaf i) r = rw (eqb-same i) (omega arith)
+own-edge (node A B) r = rw (eqb-same (r + (size A + size B) - 2)) (omega arith)
+
+pub put-above :
+    (x : ℕ) (A : Tree) (r : ℕ) → edges-at (number-in A r) A r ≡ 1
+    → with-leaf x (number-in A r) A r ≡ node A (leaf x)
+unfolding edges-at number-in with-leaf put-on
+put-above x (leaf i) r h = rw (eqb-same i)
+put-above x (node A B) r h =
+    let e = r + (size A + size B) - 2 in
+    let none = rw (eqb-same e) at h in
+    rw (
+      eqb-same e,
+      with-leaf-none x e A r (omega (arith, none)),
+      with-leaf-none x e B (r + size A - 1) (omega (arith, none)),
+    )
+
 -- equal nodes have equal children, and no node is a leaf
 node-first : (A B C D : Tree) → node A B ≡ node C D → A ≡ C
 node-first A B C D h = cc

@@ -8,7 +8,9 @@ use native.Mathlib.Nat.{div-lt-iff-lt-mul, mod-lt}
 use native.Mathlib.Omega.{arith}
 use native.Mathlib.Decide.{ℕ-discrete}
 use lib.ListN.{length}
+use Rattle.base.specs.Numbers.{sum-below}
 use Rattle.base.proofs.Lists.{row-of, column-of}
+use Rattle.base.proofs.Sums.{sum-permuted}
 use Rattle.limits.specs.Limits.{most-leaves, IsLeafCount}
 use Rattle.pair_counts.specs.Pairs.{P}
 use Rattle.trees.specs.Trees.{Tree, leaf, node, size}
@@ -95,6 +97,12 @@ module _ (n : ℕ) (l : List ℕ) (count : IsLeafCount n) (keeps : KeepsRules n 
         let li : i < n = div-lt-iff-lt-mul some .1 l in
         h .right k (at places i) (omega (arith, place-below i li)) (sym (p .placed i li))
 
+    -- and a sum over the leaves at all places is one over all leaves
+    pub places-sum : (f : ℕ → ℕ) → sum-below n (λ s. f (at order s)) ≡ sum-below n f
+    places-sum f =
+        sum-permuted n f (at order) (at places) (leaf-order .below) (leaf-order .once)
+        (λ k lk. (place-below k lk, p .placed k lk))
+
     -- what `next_row` asks at place s
     pub next-asked :
         {s : ℕ} {tops : List ℕ} → s < n → TopsBefore n aboves order depths s tops
@@ -165,5 +173,8 @@ module _ (n : ℕ) (l : List ℕ) (count : IsLeafCount n) (keeps : KeepsRules n 
       pub next-fits : {room : ℕ} → n * n ≤ room → TableRowFits n i base aboves tops room
       next-fits enough = row-fits li (found .0) least enough
 
+      pub next-counts : (j : ℕ) → j < n → base + at aboves j + at tops j ≡ quartets n T i j + whole
+      next-counts j lj = row-counts li (found .0) least j lj
+
       pub next-cells : (k : ℕ) → k / n ≡ i → cell-at n l k ≡ count-in base aboves tops (k % n)
-      next-cells k e = rw e (omega (arith, row-counts li (found .0) least (k % n) (mod-lt k (omega arith))))
+      next-cells k e = rw e (omega (arith, next-counts (k % n) (mod-lt k (omega arith))))

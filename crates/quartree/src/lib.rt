@@ -21,6 +21,7 @@ ghost use Rattle.tree_tables.specs.Operations.{table-answer};
 ghost use Rattle.gaps.specs.Operations.{gap-answer};
 ghost use Rattle.change_answers.specs.declared.Change.the-variants.{Graft, Prune};
 ghost use Rattle.change_answers.specs.Operations.{change-answer, change-record, change-table};
+ghost use Rattle.look_answers.specs.Operations.{look-answer, look-all-answer};
 ghost use Rattle.rebuild_answers.specs.Operations.{rebuild-answer, guided-answer};
 ghost use Rattle.rebuild_answers.specs.Meanings.{RebuildMeans, GuidedMeans};
 ghost use Rattle.sheet_rules.specs.Sheets.{leaves-of, offset-of, name-start, name};
@@ -231,6 +232,41 @@ pub extern "C" fn quartree_graft(
         (Graft edge) (length (now (out .entry))) (length (now (cells .entry)))) (now (cells .entry)) ⌝ }
 {
     record_replies::record_reply(tree_changes::graft(n, listing, table, edge, out, cells))
+}
+
+// The total gap to a new table of n + 1 leaves that the tree would have with leaf n grafted on an edge, as the figure:
+// 1, 2, 7, 8, 4, 5, 20, then 4, 5 of the new table.
+#[no_mangle]
+pub extern "C" fn quartree_look(
+    n: usize,
+    poll: u32,
+    listing: &[u16],
+    table: &[u32],
+    edge: usize,
+    new: &[u32],
+) -> u64
+    ensures { λ r. ⌜ r ≡ number-reply (look-answer (kind-of poll) n (now (listing .entry)) (now (table .entry))
+        (now (new .entry)) edge) ⌝ }
+{
+    looks::look_reply(looks::look(kind_of(poll), n, listing, table, new, edge))
+}
+
+// The same for every edge, 1 to 2n - 3, written in this order: 1, 2, 3, 7, 8, 4, 5, 20, then 4, 5 of the new table.
+#[no_mangle]
+pub extern "C" fn quartree_look_all(
+    n: usize,
+    poll: u32,
+    listing: &[u16],
+    table: &[u32],
+    new: &[u32],
+    out: &mut [u64],
+) -> u64
+    ensures answer { λ r. ⌜ r ≡ reply (look-all-answer (kind-of poll) n (now (listing .entry)) (now (table .entry))
+        (now (new .entry)) (length (now (out .entry)))) ⌝ }
+    ensures buffer { λ _. ⌜ now (out .exit) ≡ written (look-all-answer (kind-of poll) n (now (listing .entry))
+        (now (table .entry)) (now (new .entry)) (length (now (out .entry)))) (now (out .entry)) ⌝ }
+{
+    replies::reply_of(looks::look_all(kind_of(poll), n, listing, table, new, out))
 }
 
 // A leaf pruned: the same of the tree without it.

@@ -28,7 +28,7 @@ use Rattle.merging.proofs.States.{WellFormed, step-in, step-out, step-m-left, s
 use Rattle.merging.proofs.States.{two-fit}
 use Rattle.merging.specs.inner.Runs.{Differ, Eligible}
 use Rattle.merging.proofs.Values.{m-most}
-use Rattle.state_arrays.specs.inner.Fits.{ScaledCounts, counts-scale, Given, SmallSums, SubtreesFit}
+use Rattle.state_arrays.specs.inner.Fits.{IsScale, ScaledCounts, counts-scale, Given, SmallSums, SubtreesFit}
 use Rattle.state_arrays.specs.inner.Fits.{SizesFit, TwoLabels}
 use Rattle.state_arrays.specs.inner.Merged.{relabelled, label-at, m-at, MergeReady}
 use Rattle.state_arrays.specs.inner.Merged as Merged
@@ -49,21 +49,53 @@ pub relabel-other : (l a b : ℕ) → l ≢ b → relabelled l a b ≡ l
 unfolding relabelled
 relabel-other l a b d = rw (ne-eqb l b d)
 
-relabel-second : (l a b : ℕ) → l ≡ b → relabelled l a b ≡ a
+pub relabel-second : (l a b : ℕ) → l ≡ b → relabelled l a b ≡ a
 unfolding relabelled
 relabel-second l a b e = rw (e, eqb-same b)
 
-grow-first : (l a b pa pb : ℕ) → l ≡ a → Merged.growth l a b pa pb ≡ pb
+pub grow-first : (l a b pa pb : ℕ) → l ≡ a → Merged.growth l a b pa pb ≡ pb
 unfolding Merged.growth
 grow-first l a b pa pb e = rw (e, eqb-same a)
 
-grow-second : (l a b pa pb : ℕ) → l ≢ a → l ≡ b → Merged.growth l a b pa pb ≡ pa
+pub grow-second : (l a b pa pb : ℕ) → l ≢ a → l ≡ b → Merged.growth l a b pa pb ≡ pa
 unfolding Merged.growth
 grow-second l a b pa pb d e = rw (ne-eqb l a d, e, eqb-same b)
 
-grow-none : (l a b pa pb : ℕ) → l ≢ a → l ≢ b → Merged.growth l a b pa pb ≡ 0
+pub grow-none : (l a b pa pb : ℕ) → l ≢ a → l ≢ b → Merged.growth l a b pa pb ≡ 0
 unfolding Merged.growth
 grow-none l a b pa pb d e = rw (ne-eqb l a d, ne-eqb l b e)
+
+-- What a merge of the labels a and b makes of the arrays, leaf by leaf, and that they stay as long.
+module _ {n : ℕ} {label m sizes p label′ m′ sizes′ : List ℕ} {a b : ℕ}
+    (d : Merged.Merged n label m sizes p label′ m′ sizes′ a b) where
+  pub merged-label : (x : ℕ) → x < n → getD label′ x 0 ≡ relabelled (getD label x 0) a b
+  merged-label x lx =
+      rw (d .gathered .labels, getD-filled (label-at label a b) label n x 0 lx) (unfold label-at in refl)
+
+  -- the pairs of either subtree
+  abbrev pub pa : ℕ
+  pa = getD p (getD sizes a 0) 0
+
+  abbrev pub pb : ℕ
+  pb = getD p (getD sizes b 0) 0
+
+  pub merged-sum : (x : ℕ) → x < n → getD m′ x 0 ≡ getD m x 0 + Merged.growth (getD label x 0) a b pa pb
+  merged-sum x lx = rw (d .gathered .sums, getD-filled (m-at label m a b pa pb) m n x 0 lx) (unfold m-at in refl)
+
+  pub merged-long :
+      n ≤ length label → n ≤ length m
+      → (length label′ ≡ length label) × (length m′ ≡ length m) × (length sizes′ ≡ length sizes)
+  merged-long few-labels few-sums = (
+    rw (d .gathered .labels) (length-filled _ label n few-labels),
+    rw (d .gathered .sums) (length-filled _ m n few-sums),
+    rw (d .summed) (length-set sizes a (getD sizes a 0 + getD sizes b 0)),
+  )
+
+-- pair counts at a scale are small
+pub counts-small :
+    (n s : ℕ) (p : List ℕ) → n ≤ most-leaves → IsScale s → ScaledCounts n s p → SmallSums (n + 1) p
+counts-small n s p few scaled counts k l =
+    rw (counts k (omega arith)) (mul-le-mul (scaled .1) (P-mono k most-leaves (omega arith)))
 
 module _ {n s : ℕ} {S : State} (w : WellFormed n S) {label m sizes : List ℕ} (h : HoldsState n s label m sizes S) where
   -- a label i: the leaves labelled i are those of its subtree
@@ -126,16 +158,11 @@ module _ {n s : ℕ} {S : State} (w : WellFormed n S) {label m sizes : List ℕ}
         let most = P-mono (size (S .tree k) - 1) most-leaves (omega (arith, g .leaf-count)) in
         rw (h .sums k l) (mul-le-mul (g .scaled .1) (omega (arith, m-most w k, most)))
 
-    small-counts : SmallSums (n + 1) p
-    small-counts k l =
-        rw (g .pair-counts k (omega arith))
-        (mul-le-mul (g .scaled .1) (P-mono k most-leaves (omega (arith, g .leaf-count))))
-
     pub fair : SizesFit n t label m sizes p
     fair = record {
       few = g .leaf-count .1;
       is-table = g .is-table;
-      small-counts = small-counts;
+      small-counts = counts-small n s p (g .leaf-count .1) (g .scaled) (g .pair-counts);
       small = small;
       room = λ a b la lb d oa ob.
           rw (h .sized a la oa, h .sized b lb ob) (two-fit w a b la lb (two-apart a la oa b lb ob d));
@@ -173,7 +200,7 @@ module _ {n s : ℕ} {S : State} (w : WellFormed n S) {label m sizes : List ℕ}
         least-join A B (rw (oi′, is-least k (e .right) ok) ik) ∙ oi′
 
     pub label-is : (x : ℕ) → x < n → getD label′ x 0 ≡ relabelled (getD label x 0) i k
-    label-is x lx = rw (d .gathered .labels, getD-filled (label-at label i k) label n x 0 lx) (unfold label-at in refl)
+    label-is = merged-label d
 
     labels′ : (x : ℕ) → x < n → getD label′ x 0 ≡ least ((step S i k) .tree x)
     labels′ x lx = label-is x lx ∙ elim (bool? (leaves A x)) [
@@ -190,29 +217,20 @@ module _ {n s : ℕ} {S : State} (w : WellFormed n S) {label m sizes : List ℕ}
       ]
     ]
 
-    abbrev pa : ℕ
-    pa = getD p (getD sizes i 0) 0
-
-    abbrev pb : ℕ
-    pb = getD p (getD sizes k 0) 0
-
     joined-fit : size A + size B ≤ n
     joined-fit = two-fit w i k (e .left) (e .right) (e .apart)
 
-    pa-is : pa ≡ s * P (size A)
+    pa-is : pa d ≡ s * P (size A)
     pa-is = rw (h .sized i (e .left) oi) (g .pair-counts (size A) (omega (arith, joined-fit)))
 
-    pb-is : pb ≡ s * P (size B)
+    pb-is : pb d ≡ s * P (size B)
     pb-is = rw (h .sized k (e .right) ok) (g .pair-counts (size B) (omega (arith, joined-fit)))
 
-    sum-is : (x : ℕ) → x < n → getD m′ x 0 ≡ getD m x 0 + Merged.growth (getD label x 0) i k pa pb
-    sum-is x lx = rw (d .gathered .sums, getD-filled (m-at label m i k pa pb) m n x 0 lx) (unfold m-at in refl)
-
     sums′ : (x : ℕ) → x < n → getD m′ x 0 ≡ s * (step S i k) .m x
-    sums′ x lx = sum-is x lx ∙ rw (h .sums x lx) (elim (bool? (leaves A x)) [
+    sums′ x lx = merged-sum d x lx ∙ rw (h .sums x lx) (elim (bool? (leaves A x)) [
       | inl p ↦
           rw (
-            grow-first (getD label x 0) i k pa pb (label-in i (e .left) oi x lx p),
+            grow-first (getD label x 0) i k (pa d) (pb d) (label-in i (e .left) oi x lx p),
             pb-is,
             step-m-left S i k x p (apart w i k (e .apart) x p),
           )
@@ -221,12 +239,13 @@ module _ {n s : ℕ} {S : State} (w : WellFormed n S) {label m sizes : List ℕ}
         | inl q ↦
             let not-i = label-out i (e .left) oi x lx p in
             let is-k = label-in k (e .right) ok x lx q in
-            rw (grow-second (getD label x 0) i k pa pb not-i is-k, pa-is, step-m-right S i k x p q)
+            rw (grow-second (getD label x 0) i k (pa d) (pb d) not-i is-k, pa-is, step-m-right S i k x p q)
             (sym (mul-add s _ _))
         | inr q ↦
             let not-i = label-out i (e .left) oi x lx p in
             let not-k = label-out k (e .right) ok x lx q in
-            rw (grow-none (getD label x 0) i k pa pb not-i not-k, step-m-out S i k x (or-none _ _ p q)) (omega arith)
+            let none = grow-none (getD label x 0) i k (pa d) (pb d) not-i not-k in
+            rw (none, step-m-out S i k x (or-none _ _ p q)) (omega arith)
       ]
     ])
 
@@ -262,14 +281,16 @@ module _ {n s : ℕ} {S : State} (w : WellFormed n S) {label m sizes : List ℕ}
     ])
 
     pub holds-step : HoldsState n s label′ m′ sizes′ (step S i k)
-    holds-step = record {
-      label-long = rw (d .gathered .labels) (length-filled _ label n (rw (h .label-long) few) ∙ h .label-long);
-      m-long = rw (d .gathered .sums) (length-filled _ m n (rw (h .m-long) few) ∙ h .m-long);
-      sizes-long = rw (d .summed) (length-set sizes i (getD sizes i 0 + getD sizes k 0) ∙ h .sizes-long);
-      labels = labels′;
-      sums = sums′;
-      sized = sized′;
-    }
+    holds-step =
+        let long = merged-long d (rw (h .label-long) few) (rw (h .m-long) few) in
+        record {
+          label-long = long .0 ∙ h .label-long;
+          m-long = long .1 ∙ h .m-long;
+          sizes-long = long .2 ∙ h .sizes-long;
+          labels = labels′;
+          sums = sums′;
+          sized = sized′;
+        }
 
 -- Single leaves: the arrays as they are made, with each leaf's own label.
 module _ (n : ℕ) (few : n ≤ most-leaves) where

@@ -3,14 +3,15 @@ use limits::Kind;
 use refusals::Outcome;
 use refusals::Refusal;
 ghost use mathlib.Core.Path.{_≡_};
-ghost use mathlib.Core.Bool.{cond};
+ghost use mathlib.Core.Bool.{true, cond};
 ghost use mathlib.Core.Option.{some};
-ghost use Prim.Native.Nat.{_+_, _-_, _*_, _<_};
+ghost use Prim.Native.Nat.{_+_, _-_, _*_, _≤_, _<_};
 ghost use lib.Dec.{ltb};
 ghost use Rattle.refusals.specs.Refusals.{outcome-of};
 ghost use Rattle.trees.specs.Tables.{cell, first-filled, first-unequal, cells-refusal};
 ghost use Rattle.table_checks.specs.Operations.{table-refusal};
-ghost use Rattle.table_checks.specs.inner.Searches.{Square, found-below, unequal-from, halves-refusal};
+ghost use Rattle.table_checks.specs.inner.Searches.{Square, found-below, unequal-from, FourAgree};
+ghost use Rattle.table_checks.specs.inner.Searches.{halves-refusal};
 
 // Cell (i, j) of a table.
 fn cell_at(n: usize, cells: &[u32], i: usize, j: usize) -> u32
@@ -51,12 +52,64 @@ fn unequal_in_row(n: usize, cells: &[u32], i: usize) -> usize
     j
 }
 
+// 1 where cell (i, j) equals its mirror cell, else 0.
+fn agrees(n: usize, cells: &[u32], i: usize, j: usize) -> u32
+    requires { ⌜ Square n (now cells) × (i < n) × (j < n) ⌝ }
+    ensures { λ r. ⌜ (r ≤ 1) × (r ≡ 1 → cell n (now (cells .entry)) j i ≡ cell n (now (cells .entry)) i j) ⌝ }
+{
+    if cell_at(n, cells, j, i) == cell_at(n, cells, i, j) {
+        return 1;
+    }
+    0
+}
+
+// Whether the cells of leaf j with the four leaves from i on equal their mirror cells: one branch for all four.
+fn four_agree(n: usize, cells: &[u32], i: usize, j: usize) -> bool
+    requires { ⌜ Square n (now cells) × (i + 3 < n) × (j < n) ⌝ }
+    ensures { λ r. ⌜ (r ≡ true → FourAgree n (now (cells .entry)) i j) ⌝ }
+{
+    let two = agrees(n, cells, i, j) + agrees(n, cells, i + 1, j);
+    two + agrees(n, cells, i + 2, j) + agrees(n, cells, i + 3, j) == 4
+}
+
+// Whether no cell of the four rows from i on differs from its mirror cell: these lie side by side, so that they are
+// compared row by row of the table.
+fn four_rows_agree(n: usize, cells: &[u32], i: usize) -> bool
+    requires { ⌜ Square n (now cells) × (i + 3 < n) ⌝ }
+    ensures { λ r. ⌜ (r ≡ true → unequal-from n (now (cells .entry)) (i * n)
+        ≡ unequal-from n (now (cells .entry)) ((i + 4) * n)) ⌝ }
+{
+    let mut j = i + 1;
+    while j < n {
+        if !four_agree(n, cells, i, j) {
+            return false;
+        }
+        j += 1;
+    }
+    true
+}
+
+// So many rows from the first on have no cell that differs from its mirror cell, or more: four and four are looked at.
+fn agreeing_rows(n: usize, cells: &[u32]) -> usize
+    requires { ⌜ Square n (now cells) ⌝ }
+    ensures { λ r. ⌜ (r ≤ n) × (first-unequal n (now (cells .entry)) ≡ unequal-from n (now (cells .entry)) (r * n)) ⌝ }
+{
+    let mut i: usize = 0;
+    while i + 3 < n {
+        if !four_rows_agree(n, cells, i) {
+            return i;
+        }
+        i += 4;
+    }
+    i
+}
+
 // The refusal of the first unequal pair, row by row.
 fn unequal(n: usize, cells: &[u32]) -> Outcome
     requires { ⌜ Square n (now cells) ⌝ }
     ensures { λ r. ⌜ r ≡ outcome-of (halves-refusal (first-unequal n (now (cells .entry)))) ⌝ }
 {
-    let mut i: usize = 0;
+    let mut i = agreeing_rows(n, cells);
     while i < n {
         let j = unequal_in_row(n, cells, i);
         if j < n {

@@ -1,8 +1,8 @@
-// The total gap between a table and a tree, row by row: the gaps before the diagonal are as large as those above it,
-// since both tables have equal halves.
+// The total gap between a table and a tree, row by row in the order of the places of the leaves: the gaps before the
+// diagonal are as large as those above it, since both tables have equal halves.
 use leaf_orders::leaf_order;
 use least_depths::count_at;
-use least_depths::find_row;
+use least_depths::next_row;
 use limits::Kind;
 use limits::MOST_LEAVES;
 use limits::MOST_NODES;
@@ -18,7 +18,8 @@ ghost use Rattle.trees.specs.Gaps.{total-gap};
 ghost use Rattle.least_depths.specs.inner.Rows.{TableRowFits};
 ghost use Rattle.total_gaps.specs.inner.Sizes.{SizesAdded};
 
-// The sizes of the gaps of row i before the diagonal, added up.
+// The sizes of the gaps of row i before the diagonal, added up. Their lower and their upper 16 bits are added up apart,
+// in 32 bits: so the processor takes four cells at a time.
 fn add_row(
     n: usize,
     i: usize,
@@ -31,13 +32,16 @@ fn add_row(
     requires { ⌜ TableRowFits n i base (now aboves) (now tops) (length (now cells)) × (scale ≤ most-scale) ⌝ }
     ensures { λ r. ⌜ SizesAdded n i scale base (now (aboves .entry)) (now (tops .entry)) (now (cells .entry)) i r ⌝ }
 {
-    let mut sum: u64 = 0;
+    let mut low: u32 = 0;
+    let mut high: u32 = 0;
     let mut j: usize = 0;
     while j < i {
-        sum += apart(cells[i * n + j], scale * count_at(base, aboves, tops, j)) as u64;
+        let size = apart(cells[i * n + j], scale * count_at(base, aboves, tops, j));
+        low += size % 65536;
+        high += size / 65536;
         j += 1;
     }
-    sum
+    (low as u64) + 65536 * (high as u64)
 }
 
 // The same; with counts the scale is known to be 1 here, and the loop has no product to take.
@@ -80,9 +84,9 @@ pub fn total_gap(kind: Kind, n: usize, cells: &[u32], listing: &[u16]) -> u64
         &mut depths,
     );
     let mut total: u64 = 0;
-    for i in 0..n {
-        let base = find_row(n, &places, &aboves, &order, &depths, i, &mut tops);
-        total += add_row_by_scale(n, i, scale, base, &aboves, &tops, cells);
+    for p in 0..n {
+        let base = next_row(n, &aboves, &order, &depths, p, &mut tops);
+        total += add_row_by_scale(n, order[p], scale, base, &aboves, &tops, cells);
     }
     total
 }

@@ -3,10 +3,8 @@
 use mathlib.Core.Path.{_≡_, ap, sym, _∙_}
 use mathlib.Core.List.{List, _++_}
 use mathlib.Core.Option.{Option, none}
-use Prim.Native.Nat.{ℕ, _-_, _*_, _≤_}
-use native.Mathlib.Omega.{arith}
-use lib.ListN.{length, take, drop, length-append}
-use lib.Seq.{take-at}
+use Prim.Native.Nat.{ℕ, _-_, _*_}
+use lib.ListN.{length, take, drop}
 use Rattle.base.proofs.Lists.{length-tab}
 use Rattle.limits.specs.Limits.{IsLeafCount}
 use Rattle.refusals.specs.declared.Refusal.{Refusal}
@@ -15,33 +13,21 @@ use Rattle.refusals.specs.declared.Outcome.the-variants.{Done, Refused}
 use Rattle.refusals.specs.Refusals.{answered, outcome-of, outcome, written}
 use Rattle.refusals.proofs.Answers.{call-refused, call-done}
 use Rattle.trees.specs.Trees.{Tree, IsTree}
-use Rattle.trees.specs.Listings.{KeepsRules, tree-of, standard}
+use Rattle.trees.specs.Listings.{tree-of, standard}
 use Rattle.trees.specs.Tables.{table-of}
-use Rattle.trees.proofs.Listings.{tree-listing}
+use Rattle.trees.proofs.FrontListings.{numbers, front}
 use Rattle.change_answers.proofs.Changes.{standard-table}
 
 -- A standard listing at the front of a buffer.
 module _ (m : ℕ) (c : IsLeafCount m) (T : Tree) (h : IsTree m T) (out rest : List ℕ)
     (put : out ≡ standard m T ++ rest) where
-  numbers : length (standard m T) ≡ 2 * (m - 2)
-  numbers = tree-listing m c T h .0 .numbers
-
-  front : take (2 * (m - 2)) out ≡ standard m T
-  front = ap (take (2 * (m - 2))) put ∙ take-at (standard m T) rest (2 * (m - 2)) numbers
-
-  pub front-fits : 2 * (m - 2) ≤ length out
-  front-fits = omega (arith, ap length put, length-append (standard m T) rest, numbers)
-
-  pub front-keeps : KeepsRules m (take (2 * (m - 2)) out)
-  front-keeps = rw front (tree-listing m c T h .0)
-
   pub front-table : table-of m (tree-of m (take (2 * (m - 2)) out)) ≡ table-of m T
-  front-table = rw front (standard-table m c T h)
+  front-table = rw (front m c T h out rest put) (standard-table m c T h)
 
   -- both results as they stand in the buffers
   pub listing-put :
       (old : List ℕ) → rest ≡ drop (2 * (m - 2)) old → out ≡ standard m T ++ drop (length (standard m T)) old
-  listing-put old e = put ∙ ap (λ z. standard m T ++ z) (e ∙ ap (λ k. drop k old) (sym numbers))
+  listing-put old e = put ∙ ap (λ z. standard m T ++ z) (e ∙ ap (λ k. drop k old) (sym (numbers m c T h out rest put)))
 
   pub table-put :
       (old cells : List ℕ) → cells ≡ table-of m (tree-of m (take (2 * (m - 2)) out)) ++ drop (m * m) old

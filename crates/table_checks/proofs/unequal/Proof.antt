@@ -1,13 +1,13 @@
 -- `table_checks::unequal` meets its contract: what is found from row i on is what is found from the start.
-use mathlib.Core.Path.{_≡_, sym, _∙_}
+use mathlib.Core.Path.{_≡_, _∙_}
 use Prim.Native.Nat.{_*_, _-_, _≤_}
-use native.Mathlib.Nat.{zero-mul, mul-le-mul-right}
+use native.Mathlib.Nat.{mul-le-mul-right}
 use native.Mathlib.Omega.{arith}
 use borrow.Author.Needs.{needs}
 use borrow.Author.Tests.{lt-ltb, le-ltb}
 use Rattle.trees.specs.Tables.{first-unequal}
 use Rattle.table_checks.specs.inner.Searches.{unequal-from}
-use Rattle.table_checks.proofs.Searches.{unequal-start, unequal-end}
+use Rattle.table_checks.proofs.Searches.{unequal-end}
 use Rattle.table_checks.proofs.Verdicts.{unequal-told, equal-told}
 use Rattle.table_checks.proofs.unequal.Statement.{statement}
 use Rattle.table_checks.proofs.unequal.Tie as tie
@@ -19,7 +19,7 @@ abbrev μ-loop : tie.MeasureT-loop
 μ-loop n cells i₀ i = n - i
 
 loop-holds : tie.Need-loop-holds Inv-loop μ-loop
-loop-holds c = (search needs, rw zero-mul (sym (unequal-start _ _)))
+loop-holds c = c .agreeing-rows .ensures
 
 returns : tie.Need-returns Inv-loop μ-loop
 returns c =
@@ -39,8 +39,8 @@ returns-2 c =
     let l = c .before .loop in
     equal-told _
     (l .inv .1
-    ∙ unequal-end _ _ (l .i * c .before .before .before .args .n)
-    (mul-le-mul-right (c .before .before .before .args .n) (c .loop-test .left)))
+    ∙ unequal-end _ _ (l .i * c .before .before .before .before .args .n)
+    (mul-le-mul-right (c .before .before .before .before .args .n) (c .loop-test .left)))
 
 pub unequal-spec : {M : Type 1} → statement M
 unequal-spec =
@@ -48,6 +48,7 @@ unequal-spec =
     (tie.spec
     Inv-loop
     μ-loop
+    (λ c κs. search needs)
     loop-holds
     (λ c κs. search needs)
     returns

@@ -3,7 +3,7 @@ use mathlib.Core.Path.{_≡_}
 use mathlib.Core.Bool.{cond, not, _&&_}
 use mathlib.Core.List.{List}
 use mathlib.Core.Option.{Option, none, some}
-use Prim.Native.Nat.{ℕ, _*_, _≤_}
+use Prim.Native.Nat.{ℕ, _+_, _*_, _≤_, _<_}
 use lib.Dec.{ltb, eqb}
 use lib.ListN.{length, drop}
 use Rattle.base.specs.Lists.{in-rows, find}
@@ -25,6 +25,10 @@ found-below n r = cond (ltb r n) (some r) none
 unfoldable pub unequal-from : ℕ → List ℕ → ℕ → Option (ℕ × ℕ)
 unequal-from n t k =
     find (λ p. ltb (p .0) (p .1) && not (eqb (cell n t (p .0) (p .1)) (cell n t (p .1) (p .0)))) (drop k (in-rows n))
+
+-- the cells of leaf j with the four leaves from i on equal their mirror cells
+abbrev pub FourAgree : ℕ → List ℕ → ℕ → ℕ → Type 0
+FourAgree n t i j = (k : ℕ) → k < 4 → cell n t j (i + k) ≡ cell n t (i + k) j
 
 -- the refusal 5 of such a pair
 unfoldable pub halves-refusal : Option (ℕ × ℕ) → Option Refusal

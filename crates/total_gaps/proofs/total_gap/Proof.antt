@@ -1,24 +1,27 @@
--- `total_gaps::total_gap` meets its contract: the rows before row i are added up.
+-- `total_gaps::total_gap` meets its contract: the rows of the leaves at the places before p are added up.
 use mathlib.Core.Path.{_≡_, refl, _∙_}
-use Prim.Native.Nat.{_-_, _*_, _^_, _≤_}
+use Prim.Native.Nat.{_-_, _*_, _^_, _≤_, _<_}
 use native.Mathlib.Omega.{arith}
 use borrow.Author.Needs.{needs}
-use lib.ListN.{length}
+use Rattle.base.specs.Numbers.{sum-below}
 use Rattle.limits.specs.Limits.{most-leaves}
 use Rattle.limits.proofs.TableKinds.{scale-bounds}
 use Rattle.trees.specs.Listings.{tree-of}
-use Rattle.least_depths.proofs.RowCounts.{row-asked, row-counts, row-fits}
-use Rattle.total_gaps.proofs.Totals.{rows-gap, rows-begun, rows-more, rows-all}
+use Rattle.leaf_orders.specs.inner.Orders.{at}
+use Rattle.least_depths.specs.inner.Depths.{TopsBefore}
+use Rattle.least_depths.proofs.Rows.{tops-none, tops-more}
+use Rattle.least_depths.proofs.RowCounts.{leaf-order, places-sum, next-asked, next-fits, next-counts}
+use Rattle.total_gaps.proofs.Totals.{rows-gap, rows-more, rows-all}
 use Rattle.total_gaps.proofs.total_gap.Statement.{statement}
 use Rattle.total_gaps.proofs.total_gap.Tie as tie
 
 abbrev Inv-loop : tie.InvT-loop
-Inv-loop n cells listing scale places aboves order depths tops₀ total₀ i₀ tops total i =
-    (i ≤ n) × (length tops ≡ most-leaves) × (total ≡ rows-gap n scale cells (tree-of n listing) i)
-    × (total ≤ i * (most-leaves * (2 ^ 32 - 1)))
+Inv-loop n cells listing scale aboves order depths tops₀ total₀ p₀ tops total p =
+    (p ≤ n) × TopsBefore n aboves order depths p tops
+    × (total ≡ rows-gap n scale cells (tree-of n listing) order p) × (total ≤ p * (most-leaves * (2 ^ 32 - 1)))
 
 abbrev μ-loop : tie.MeasureT-loop
-μ-loop n cells listing scale places aboves order depths tops₀ total₀ i₀ tops total i = n - i
+μ-loop n cells listing scale aboves order depths tops₀ total₀ p₀ tops total p = n - p
 
 leaf-order-requires : tie.Need-leaf-order-requires Inv-loop μ-loop
 leaf-order-requires c κs =
@@ -26,57 +29,74 @@ leaf-order-requires c κs =
     (p .0, p .2, refl, refl, refl, refl)
 
 loop-holds : tie.Need-loop-holds Inv-loop μ-loop
-loop-holds c = (omega arith, refl, rows-begun _ _ _ _, omega arith)
+unfolding sum-below
+loop-holds c = (omega arith, tops-none refl, refl, omega arith)
 
-find-row-requires : tie.Need-find-row-requires Inv-loop μ-loop
-find-row-requires c κs =
-    let i = c .before .before .before .before .before .before .loop in
-    let made = c .before .before .before .before .before .before .before in
-    let p = made .before .before .before .before .before .before .before .before .pre in
-    row-asked _ _ (p .0) (p .2) (made .leaf-order .ensures) (i .tops) (omega arith) (i .inv .1)
+next-row-requires : tie.Need-next-row-requires Inv-loop μ-loop
+next-row-requires c κs =
+    let tested = c .before .before .before .before in
+    let made = tested .before .before in
+    let s = made .before .before .before .before .before .before .before .before in
+    next-asked _ _ (s .pre .0) (s .pre .2) (made .leaf-order .ensures) (omega arith) (tested .before .loop .inv .1)
 
 add-row-by-scale-requires : tie.Need-add-row-by-scale-requires Inv-loop μ-loop
 add-row-by-scale-requires c κs =
-    let found = c .before .before .find-row .ensures in
+    let tested = c .before .before .before .before .before .before .before in
+    let made = tested .before .before in
+    let scaled = made .before .before .before .before .before in
+    let s = scaled .before .before .before in (
+      next-fits _ _ (s .pre .0) (s .pre .2) (made .leaf-order .ensures) (tested .loop-test .taken)
+          (c .before .before .next-row .ensures) (omega (arith, s .pre .1 .cells)),
+      rw (scaled .scale-of .ensures) (scale-bounds (s .args .kind) .1),
+    )
+
+-- the leaf at the place is one of the tree's
+row :
+    (c : tie.After-add-row-by-scale Inv-loop μ-loop)
+    → let tested = c .before .before .before .before .before .before .before .before in
+    let made = tested .before .before in
+    at (made .leaf-order .last .1 .1 .1 .1 .0) (tested .before .loop .p)
+    < made .before .before .before .before .before .before .before .before .args .n
+row c =
     let tested = c .before .before .before .before .before .before .before .before in
     let made = tested .before .before in
-    let s = made .before .before .before .before .before in
-    let p = s .before .before .before .pre in (
-      row-fits _ _ (p .0) (p .2) (made .leaf-order .ensures) (tested .loop-test .taken) (found .0) (found .1)
-          (omega (arith, p .1 .cells)),
-      rw (s .scale-of .ensures) (scale-bounds (s .before .before .before .args .kind) .1),
-    )
+    let s = made .before .before .before .before .before .before .before .before in
+    leaf-order _ _ (s .pre .0) (s .pre .2) (made .leaf-order .ensures) .below (tested .before .loop .p)
+    (tested .loop-test .taken)
 
 add-total : tie.Need-add-total Inv-loop μ-loop
 add-total c =
-    let i = c .before .before .before .before .before .before .before .before .before .before .loop in
-    let made = c .before .before .before .before .before .before .before .before .before .before .before in
-    let p = made .before .before .before .before .before .before .before .before .pre in
-    omega (arith, c .add-row-by-scale .ensures .small, i .inv .3, p .0)
+    let tested = c .before .before .before .before .before .before .before .before in
+    let s = tested .before .before .before .before .before .before .before .before .before .before in
+    omega (arith, c .add-row-by-scale .ensures .small, tested .before .loop .inv .3, s .pre .0, row c)
 
 loop-again : tie.Need-loop-again Inv-loop μ-loop
 loop-again c =
-    let found = c .before .before .before .find-row .ensures in
-    let row = c .add-row-by-scale .ensures in
-    let tested = c .before .before .before .before .before .before .before .before .before in
-    let i = tested .before .loop in
+    let found = c .before .before .before .next-row .ensures in
+    let sizes = c .add-row-by-scale .ensures in
+    let tested = c .before .before .before .before .before .before .before .before in
+    let l = tested .before .loop in
     let made = tested .before .before in
-    let s = made .before .before .before .before .before in
-    let p = s .before .before .before .pre in
+    let s = made .before .before .before .before .before .before .before .before in
     let counts =
-    row-counts _ _ (p .0) (p .2) (made .leaf-order .ensures) (tested .loop-test .taken) (found .0) (found .1) in
-    let more = rows-more _ _ _ _ (p .1) (tested .loop-test .taken) counts row in (
+    next-counts _ _ (s .pre .0) (s .pre .2) (made .leaf-order .ensures) (tested .loop-test .taken) found in
+    let more = rows-more _ _ _ _ (made .leaf-order .last .1 .1 .1 .1 .0) (l .p) (s .pre .1) (row c) counts sizes in (
       omega arith,
-      found .1 .long,
-      rw (i .inv .2) more,
-      omega (arith, row .small, i .inv .3, p .0),
+      tops-more (found .1),
+      rw (l .inv .2) more,
+      omega (arith, sizes .small, l .inv .3, s .pre .0, row c),
     )
 
 returns : tie.Need-returns Inv-loop μ-loop
 returns c =
     let l = c .before .loop in
-    let s = c .before .before .before .before .before .before .before in
-    l .inv .2 ∙ rw (← s .scale-of .ensures) (rows-all _ _ _ _ (l .i) (omega arith))
+    let made = c .before .before in
+    let scaled = made .before .before .before .before .before in
+    let s = scaled .before .before .before in
+    let all = places-sum _ _ (s .pre .0) (s .pre .2) (made .leaf-order .ensures) in
+    l .inv .2
+    ∙ rw (← scaled .scale-of .ensures)
+    (rows-all _ _ _ _ (made .leaf-order .last .1 .1 .1 .1 .0) (l .p) all (omega arith))
 
 pub total-gap-spec : {M : Type 1} → statement M
 total-gap-spec =
@@ -87,7 +107,8 @@ total-gap-spec =
     (λ c κs. search needs)
     leaf-order-requires
     loop-holds
-    find-row-requires
+    next-row-requires
+    (λ c. search needs) (λ c. search needs)
     add-row-by-scale-requires
     add-total
     (λ c. search needs) (λ c. search needs)

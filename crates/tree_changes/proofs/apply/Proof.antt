@@ -7,10 +7,11 @@ use Rattle.refusals.proofs.Answers.{call-passed}
 use Rattle.trees.specs.Trees.{IsTree}
 use Rattle.trees.specs.Listings.{tree-of}
 use Rattle.trees.proofs.Rules.{listing-tree}
+use Rattle.trees.proofs.FrontListings.{front-fits, front-keeps}
 use Rattle.change_answers.specs.Operations.{count-after, changed, change-answer, change-table}
 use Rattle.change_answers.proofs.Changes.{changed-tree}
 use Rattle.change_answers.proofs.Accepted.{Accepted, accepted-change}
-use Rattle.tree_changes.proofs.Results.{front-fits, front-keeps, listing-put, table-put, both-refused, both-done}
+use Rattle.tree_changes.proofs.Results.{listing-put, table-put, both-refused, both-done}
 use Rattle.tree_changes.proofs.apply.Statement.{statement}
 use Rattle.tree_changes.proofs.apply.Tie as tie
 

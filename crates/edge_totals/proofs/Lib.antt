@@ -1,0 +1,9 @@
+mod FreeNumbers
+mod RowsJoined
+mod RowClasses
+mod RowGapSums
+mod RowGaps
+mod RowWeights
+mod WeightsKept
+mod SpreadTotals
+mod AllTotals

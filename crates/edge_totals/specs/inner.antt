@@ -1,0 +1,5 @@
+pub mod Classes
+pub mod NewRows
+pub mod Rows
+pub mod Weights
+pub mod Totals

@@ -1,0 +1,1 @@
+// Looking before grafting: the answers, and what follows of them. There is no code here.

@@ -1,0 +1,4 @@
+mod Refusals
+mod GraftedListings
+mod AllEdges
+pub mod LookAnswers
