@@ -63,30 +63,29 @@ fn agrees(n: usize, cells: &[u32], i: usize, j: usize) -> u32
     0
 }
 
-// Whether the cells of leaf j with the four leaves from i on equal their mirror cells: one branch for all four.
-fn four_agree(n: usize, cells: &[u32], i: usize, j: usize) -> bool
+// How many of the cells of leaf j with the four leaves from i on equal their mirror cells.
+fn count_agreeing(n: usize, cells: &[u32], i: usize, j: usize) -> u32
     requires { ⌜ Square n (now cells) × (i + 3 < n) × (j < n) ⌝ }
-    ensures { λ r. ⌜ (r ≡ true → FourAgree n (now (cells .entry)) i j) ⌝ }
+    ensures { λ r. ⌜ (r ≤ 4) × (r ≡ 4 → FourAgree n (now (cells .entry)) i j) ⌝ }
 {
     let two = agrees(n, cells, i, j) + agrees(n, cells, i + 1, j);
-    two + agrees(n, cells, i + 2, j) + agrees(n, cells, i + 3, j) == 4
+    two + agrees(n, cells, i + 2, j) + agrees(n, cells, i + 3, j)
 }
 
 // Whether no cell of the four rows from i on differs from its mirror cell: these lie side by side, so that they are
-// compared row by row of the table.
+// compared row by row of the table. All are gone through, so that there is no branch on a cell.
 fn four_rows_agree(n: usize, cells: &[u32], i: usize) -> bool
     requires { ⌜ Square n (now cells) × (i + 3 < n) ⌝ }
     ensures { λ r. ⌜ (r ≡ true → unequal-from n (now (cells .entry)) (i * n)
         ≡ unequal-from n (now (cells .entry)) ((i + 4) * n)) ⌝ }
 {
+    let mut right: u32 = 0;
     let mut j = i + 1;
     while j < n {
-        if !four_agree(n, cells, i, j) {
-            return false;
-        }
+        right += count_agreeing(n, cells, i, j);
         j += 1;
     }
-    true
+    right as usize == 4 * (n - (i + 1))
 }
 
 // So many rows from the first on have no cell that differs from its mirror cell, or more: four and four are looked at.
