@@ -3,15 +3,14 @@ use mathlib.Core.Path.{_≡_, refl, sym, _∙_}
 use mathlib.Core.Bool.{true, false}
 use mathlib.Core.List.{List}
 use Prim.Native.Nat.{ℕ, _+_, _*_, _^_, _≤_, _<_}
-use native.Mathlib.Nat.{mul-le-mul, mul-le-mul-left, mul-le-mul-right}
+use native.Mathlib.Nat.{mul-le-mul, mul-le-mul-right}
 use native.Mathlib.Omega.{arith}
 use lib.Dec.{eqb}
 use lib.ListN.{length, getD}
-use Rattle.base.specs.Numbers.{indicator, sum-below, distance}
+use Rattle.base.specs.Numbers.{indicator, sum-below}
 use Rattle.base.proofs.Sums.{sum-more}
 use Rattle.base.proofs.Lists.{place}
 use Rattle.limits.specs.Limits.{most-leaves, most-cells, largest-cell, most-scale}
-use Rattle.trees.specs.Tables.{cell}
 use Rattle.grafted_cells.specs.inner.Moves.{block-gap}
 use Rattle.grafted_cells.proofs.Totals.{block-gap-rows}
 use Rattle.block_gaps.specs.inner.Blocks.{TablesFit, of-class, gap-with, most-gap, most-gaps}

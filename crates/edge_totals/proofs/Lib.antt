@@ -1,9 +1,3 @@
-mod FreeNumbers
-mod RowsJoined
-mod RowClasses
-mod RowGapSums
-mod RowGaps
-mod RowWeights
 mod WeightsKept
 mod SpreadTotals
 mod AllTotals

@@ -1,22 +1,21 @@
 -- The totals found from the last row down: those for the last edge and for the edges above the children of the rows
 -- from row k on are there. Each number but the last is a child of a row behind its own, so that the total at a row's
 -- node is there before those at its children, and in the end all are.
-use mathlib.Core.Path.{_≡_, refl, sym, _∙_}
+use mathlib.Core.Path.{_≡_, refl, _∙_}
 use mathlib.Core.Logic.{_⊎_, inl, inr, _≢_}
 use mathlib.Core.List.{List}
-use Prim.Native.Nat.{ℕ, zero, suc, _+_, _-_, _*_, _/_, _≤_, _<_}
+use Prim.Native.Nat.{ℕ, zero, suc, _+_, _-_, _*_, _≤_, _<_}
 use native.Mathlib.Omega.{arith}
 use native.Mathlib.Decide.{ℕ-discrete, decLt}
 use lib.ListN.{length, getD, set, length-set}
 use lib.Seq.{getD-set-same, getD-set-other}
 use Rattle.base.specs.Lists.{filled}
 use Rattle.base.proofs.Filling.{known-filled}
-use Rattle.limits.specs.Limits.{most-nodes, IsLeafCount}
+use Rattle.limits.specs.Limits.{IsLeafCount}
 use Rattle.trees.specs.Listings.{KeepsRules}
-use Rattle.trees.proofs.SubtreesByRow.{child-before, child-positive, named-once}
-use Rattle.edge_totals.specs.inner.Rows.{Free}
+use Rattle.trees.proofs.SubtreesByRow.{child-before}
+use Rattle.edge_weights.proofs.FreeNumbers.{only-last-free, child-range, children-differ}
 use Rattle.edge_totals.specs.inner.Totals.{MovesTo, Moves, MoveFits, SpreadReady}
-use Rattle.edge_totals.proofs.FreeNumbers.{only-last-free}
 
 -- e is the last number, or a row from row k on names it
 abbrev pub Found : (n : ℕ) (l : List ℕ) (k e : ℕ) → Type 0
@@ -67,19 +66,6 @@ module _ (n : ℕ) (l : List ℕ) (c : IsLeafCount n) (keeps : KeepsRules n l) w
         inr (w .0, omega (arith, before, w .3), w .2, w .3)
   ]
 
-  -- the number at a place
-  child-range : (q : ℕ) → q < 2 * (n - 2) → (0 < getD l q 0) × (getD l q 0 < 2 * n - 3)
-  child-range q h =
-      let long = keeps .numbers in (
-        child-positive n l (omega (arith, c)) keeps q (omega arith),
-        omega (arith, child-before n l c keeps q (omega arith), c),
-      )
-
-  differ : (q r : ℕ) → q < 2 * (n - 2) → r < 2 * (n - 2) → q ≢ r → getD l q 0 ≢ getD l r 0
-  differ q r hq hr d =
-      let long = keeps .numbers in
-      named-once n l (omega (arith, c)) keeps q r (omega arith) (omega arith) d
-
   module _ {gains losses rows out₀ : List ℕ} where
     pub spread-begun : SpreadFrom n l gains losses rows out₀ out₀ (n - 2)
     spread-begun = record {
@@ -118,7 +104,7 @@ module _ (n : ℕ) (l : List ℕ) (c : IsLeafCount n) (keeps : KeepsRules n l) w
           → MovesTo gains losses rows (s .totals) (n + k) (getD l q 0)
           → MoveFits (getD l q 0) (getD out (n + k - 1) 0) (getD rows (n + k) 0) gains losses (length out₀)
       move-fits s q h to =
-          let range = child-range q h in
+          let range = child-range n l c keeps q h in
           let total = above (s .totals) (s .moves) (s .last) in
           record {
             positive = range .0;
@@ -145,9 +131,9 @@ module _ (n : ℕ) (l : List ℕ) (c : IsLeafCount n) (keeps : KeepsRules n l) w
                   | yes second ↦
                       rw (← q .3, second) (at-y ∙ omega (arith, total, moves .second k row))
                   | no not-second ↦
-                      let range = child-range (q .0) (q .2) in
-                      let not-x = differ (q .0) (2 * k) (q .2) (omega arith) not-first in
-                      let not-y = differ (q .0) (2 * k + 1) (q .2) (omega arith) not-second in
+                      let range = child-range n l c keeps (q .0) (q .2) in
+                      let not-x = children-differ n l c keeps (q .0) (2 * k) (q .2) (omega arith) not-first in
+                      let not-y = children-differ n l c keeps (q .0) (2 * k + 1) (q .2) (omega arith) not-second in
                       rw (← q .3)
                       (kept (getD l (q .0) 0 - 1) (less-one _ _ (range .0) (range-x .0) not-x)
                       (less-one _ _ (range .0) (range-y .0) not-y)
@@ -158,10 +144,10 @@ module _ (n : ℕ) (l : List ℕ) (c : IsLeafCount n) (keeps : KeepsRules n l) w
       }
         where
           range-x : (0 < x) × (x < 2 * n - 3)
-          range-x = child-range (2 * k) (omega arith)
+          range-x = child-range n l c keeps (2 * k) (omega arith)
 
           range-y : (0 < y) × (y < 2 * n - 3)
-          range-y = child-range (2 * k + 1) (omega arith)
+          range-y = child-range n l c keeps (2 * k + 1) (omega arith)
 
           kept : (j : ℕ) → j ≢ x - 1 → j ≢ y - 1 → getD after j 0 ≡ getD out j 0
           kept j dx dy =
@@ -170,7 +156,7 @@ module _ (n : ℕ) (l : List ℕ) (c : IsLeafCount n) (keeps : KeepsRules n l) w
 
           at-x : getD after (x - 1) 0 ≡ moved x
           at-x =
-              let d = differ (2 * k) (2 * k + 1) (omega arith) (omega arith) (omega arith) in
+              let d = children-differ n l c keeps (2 * k) (2 * k + 1) (omega arith) (omega arith) (omega arith) in
               getD-set-other (set out (x - 1) (moved x)) (y - 1) (x - 1) (moved y) 0
               (less-one x y (range-x .0) (range-y .0) d)
               ∙ getD-set-same out (x - 1) (moved x) 0 (omega (arith, range-x, w .long))

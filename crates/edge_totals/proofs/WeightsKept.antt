@@ -1,20 +1,19 @@
 -- The weights as they are kept by number, row after row. No two rows name one number, so what was kept stays.
-use mathlib.Core.Path.{_≡_, sym, _∙_}
-use mathlib.Core.Logic.{inl, inr, _≢_}
+use mathlib.Core.Path.{_≡_, _∙_}
+use mathlib.Core.Logic.{_≢_}
 use mathlib.Core.List.{List}
-use Prim.Native.Nat.{ℕ, _+_, _-_, _*_, _≤_, _<_}
+use Prim.Native.Nat.{ℕ, _+_, _-_, _*_, _<_}
 use native.Mathlib.Omega.{arith}
 use native.Mathlib.Decide.{ℕ-discrete}
 use lib.ListN.{length, getD, set, length-set}
 use lib.Seq.{getD-set-same, getD-set-other}
 use Rattle.limits.specs.Limits.{most-nodes}
-use Rattle.trees.specs.Trees.{Tree}
 use Rattle.trees.specs.Listings.{subtree-at, tree-of}
-use Rattle.trees.proofs.SubtreesByRow.{child-before, named-once}
 use Rattle.grafted_cells.specs.inner.Moves.{new-row-gap}
-use Rattle.block_gaps.specs.inner.Blocks.{most-gaps}
-use Rattle.edge_totals.specs.inner.Rows.{Given}
-use Rattle.edge_totals.specs.inner.Weights.{Weighed, RowWeighed, RowsWeighed, AllWeighed}
+use Rattle.edge_weights.specs.inner.Rows.{Given}
+use Rattle.edge_weights.specs.inner.Weights.{Weighed, RowWeighed}
+use Rattle.edge_weights.proofs.FreeNumbers.{child-range, children-differ}
+use Rattle.edge_totals.specs.inner.Kept.{RowsWeighed, AllWeighed}
 
 -- two entries of a list set, at different places
 module _ (l : List ℕ) (x y a b : ℕ) (long : length l ≡ most-nodes) where
@@ -42,15 +41,9 @@ weights-begun a b c = record {
 }
 
 module _ {n s : ℕ} {l t u p : List ℕ} (g : Given n s l t u p) where
-  -- a child is a number below the last, and no other place names it
-  child-low : (q : ℕ) → q < 2 * (n - 2) → getD l q 0 < 2 * n - 3
-  child-low q h =
-      omega (arith, child-before n l (g .count) (g .keeps) q (omega (arith, g .keeps .numbers)), g .count)
-
+  -- no place names the number that another names
   apart : (q r : ℕ) → q < 2 * (n - 2) → r < 2 * (n - 2) → q ≢ r → getD l q 0 ≢ getD l r 0
-  apart q r hq hr d =
-      named-once n l (omega (arith, g .count)) (g .keeps) q r (omega (arith, g .keeps .numbers))
-      (omega (arith, g .keeps .numbers)) d
+  apart = children-differ n l (g .count) (g .keeps)
 
   module _ {k : ℕ} (row : k < n - 2) {gains losses rows : List ℕ} (w : RowsWeighed n s l t u k gains losses rows)
       {g₁ l₁ r₁ g₂ l₂ r₂ : ℕ} (new : RowWeighed n s l t u k g₁ l₁ r₁ g₂ l₂ r₂) where
@@ -65,10 +58,10 @@ module _ {n s : ℕ} {l t u p : List ℕ} (g : Given n s l t u p) where
     after v a b = set (set v x a) y b
 
     x-low : x < most-nodes
-    x-low = omega (arith, child-low (2 * k) (omega arith), g .count)
+    x-low = omega (arith, child-range n l (g .count) (g .keeps) (2 * k) (omega arith), g .count)
 
     y-low : y < most-nodes
-    y-low = omega (arith, child-low (2 * k + 1) (omega arith), g .count)
+    y-low = omega (arith, child-range n l (g .count) (g .keeps) (2 * k + 1) (omega arith), g .count)
 
     differ : x ≢ y
     differ = apart (2 * k) (2 * k + 1) (omega arith) (omega arith) (omega arith)
@@ -123,21 +116,19 @@ module _ {n s : ℕ} {l t u p : List ℕ} (g : Given n s l t u p) where
   -- all rows, and the gaps in the row of leaf n at the edge above the last number
   pub weights-all :
       {k : ℕ} {gains losses rows : List ℕ} {r : ℕ} → k ≡ n - 2 → RowsWeighed n s l t u k gains losses rows
-      → r ≡ new-row-gap n s u (tree-of n l) (2 * n - 3) → r ≤ most-gaps
-      → AllWeighed n s l t u gains losses (set rows (2 * n - 3) r)
-  weights-all {k} {gains} {losses} {rows} {r} e w is small =
-      let last = getD-set-same rows (2 * n - 3) r 0 (omega (arith, w .rows-long, g .count)) in
-      record {
-        weighed = record {
-          gains-long = w .gains-long;
-          losses-long = w .losses-long;
-          rows-long = simp length-set (w .rows-long);
-          first = λ q h. rw (other (2 * q) (omega arith)) (w .first q (omega arith));
-          second = λ q h. rw (other (2 * q + 1) (omega arith)) (w .second q (omega arith));
-        };
-        at-last = last ∙ is;
-        last-small = rw last small;
-      }
+      → r ≡ new-row-gap n s u (tree-of n l) (2 * n - 3) → AllWeighed n s l t u gains losses (set rows (2 * n - 3) r)
+  weights-all {k} {gains} {losses} {rows} {r} e w is = record {
+    weighed = record {
+      gains-long = w .gains-long;
+      losses-long = w .losses-long;
+      rows-long = simp length-set (w .rows-long);
+      first = λ q h. rw (other (2 * q) (omega arith)) (w .first q (omega arith));
+      second = λ q h. rw (other (2 * q + 1) (omega arith)) (w .second q (omega arith));
+    };
+    at-last = getD-set-same rows (2 * n - 3) r 0 (omega (arith, w .rows-long, g .count)) ∙ is;
+  }
     where
       other : (q : ℕ) → q < 2 * (n - 2) → getD (set rows (2 * n - 3) r) (getD l q 0) 0 ≡ getD rows (getD l q 0) 0
-      other q h = getD-set-other rows (2 * n - 3) (getD l q 0) r 0 (omega (arith, child-low q h))
+      other q h =
+          getD-set-other rows (2 * n - 3) (getD l q 0) r 0
+          (omega (arith, child-range n l (g .count) (g .keeps) q h))

@@ -1,5 +1,2 @@
-pub mod Classes
-pub mod NewRows
-pub mod Rows
-pub mod Weights
+pub mod Kept
 pub mod Totals

@@ -29,7 +29,7 @@ use Rattle.grafted_trees.specs.Grafts.{names-edge, grafted}
 use Rattle.grafted_trees.proofs.EdgeNumbers.{range-edge}
 use Rattle.state_arrays.specs.inner.Fits.{ScaledCounts}
 use Rattle.look_answers.specs.Operations.{look-refusal, look-total}
-use Rattle.edge_totals.specs.inner.Rows.{Given}
+use Rattle.edge_weights.specs.inner.Rows.{Given}
 
 -- every tree has an edge 1, and an edge to leaf 0
 pub first-edge : (n : ℕ) → IsLeafCount n → names-edge n 1 ≡ true

@@ -1,5 +1,5 @@
 -- The answer of a look, as the enum that code returns: a refusal, or the total gap; and the reply that is made of it.
-use mathlib.Core.Path.{_≡_, sym, _∙_}
+use mathlib.Core.Path.{_≡_, _∙_}
 use Prim.Native.Nat.{ℕ}
 use Rattle.limits.specs.declared.Kind.{Kind}
 use mathlib.Core.List.{List}

@@ -2,7 +2,7 @@
 -- and the table of the tree that stands there at the front of the other.
 use mathlib.Core.Path.{_≡_, ap, sym, _∙_}
 use mathlib.Core.List.{List, _++_}
-use mathlib.Core.Option.{Option, none}
+use mathlib.Core.Option.{Option}
 use Prim.Native.Nat.{ℕ, _-_, _*_}
 use lib.ListN.{length, take, drop}
 use Rattle.base.proofs.Lists.{length-tab}

@@ -2,7 +2,6 @@
 use mathlib.Core.Path.{_≡_}
 use Prim.Native.Nat.{_-_, _≤_}
 use native.Mathlib.Omega.{arith}
-use borrow.Author.Needs.{needs}
 use Rattle.block_gaps.specs.inner.Blocks.{RowsAdded}
 use Rattle.block_gaps.proofs.AddedGaps.{rows-begun, rows-more, block-made}
 use Rattle.block_gaps.proofs.add_block.Statement.{statement}

@@ -1,9 +1,9 @@
 -- `edge_totals::spread_totals` meets its contract: the totals at the children of the rows from row k on are there.
-use mathlib.Core.Path.{_≡_, _∙_}
-use Prim.Native.Nat.{_+_, _-_, _*_, _≤_, _<_}
+use mathlib.Core.Path.{_≡_}
+use Prim.Native.Nat.{_+_, _-_, _≤_, _<_}
 use native.Mathlib.Omega.{arith}
 use borrow.Author.Needs.{needs}
-use lib.ListN.{length, getD, length-set}
+use lib.ListN.{length-set}
 use Rattle.listings.proofs.Rows.{RowOf, row-read}
 use Rattle.edge_totals.proofs.SpreadTotals.{SpreadFrom, spread-begun, move-fits, spread-more, spread-all}
 use Rattle.edge_totals.proofs.spread_totals.Statement.{statement}

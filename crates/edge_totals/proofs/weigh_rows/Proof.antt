@@ -4,18 +4,18 @@ use mathlib.Core.Path.{_≡_, refl, ap, _∙_}
 use Prim.Native.Nat.{_+_, _-_, _*_, _≤_, _<_}
 use native.Mathlib.Omega.{arith}
 use borrow.Author.Needs.{needs}
-use lib.ListN.{length, getD, length-set}
+use lib.ListN.{getD, length-set}
 use mathlib.Core.Bool.{true}
 use Rattle.limits.specs.Limits.{most-leaves, most-nodes}
 use Rattle.trees.specs.Listings.{subtree-at}
 use Rattle.grafted_trees.specs.Grafts.{names-edge}
 use Rattle.grafted_trees.proofs.EdgeNumbers.{range-edge}
 use Rattle.listings.proofs.Rows.{RowOf, row-read}
-use Rattle.edge_totals.specs.inner.Rows.{BeforeRow, Held}
-use Rattle.edge_totals.specs.inner.Weights.{RowsWeighed}
-use Rattle.edge_totals.proofs.FreeNumbers.{last-free}
-use Rattle.edge_totals.proofs.RowsJoined.{rows-begun, first-held, second-held, merge-ready, row-joined}
-use Rattle.edge_totals.proofs.RowGaps.{tables-fit, row-fits, row-is}
+use Rattle.edge_weights.specs.inner.Rows.{BeforeRow, Held}
+use Rattle.edge_weights.proofs.FreeNumbers.{last-free}
+use Rattle.edge_weights.proofs.RowsJoined.{rows-begun, first-held, merge-ready, row-joined}
+use Rattle.edge_weights.proofs.RowGaps.{tables-fit, row-fits, row-is}
+use Rattle.edge_totals.specs.inner.Kept.{RowsWeighed}
 use Rattle.edge_totals.proofs.WeightsKept.{weights-begun, weights-more, weights-all}
 use Rattle.edge_totals.proofs.weigh_rows.Statement.{statement}
 use Rattle.edge_totals.proofs.weigh_rows.Tie as tie
@@ -207,7 +207,6 @@ returns c =
     let held = last-held end in
     let gaps = rw (last .index-of-u323 .ensures, held .sized) at (c .new-row-gap .ensures .0) in
     weights-all given (omega arith) (end .before .loop .inv .2) (gaps ∙ row-is given _ (last-edge end) held)
-    (c .new-row-gap .ensures .1)
 
 pub weigh-rows-spec : {M : Type 1} → statement M
 weigh-rows-spec =

@@ -1,9 +1,9 @@
 -- `edge_totals::write_totals` meets its contract: the totals move by the weights, and are spread from the last edge.
-use mathlib.Core.Path.{_≡_, ap, _∙_}
+use mathlib.Core.Path.{ap, _∙_}
 use native.Mathlib.Omega.{arith}
 use borrow.Author.Needs.{needs}
 use Prim.Native.Nat.{ℕ, _+_, _*_, _^_, _<_}
-use lib.ListN.{length, length-set}
+use lib.ListN.{length}
 use Rattle.base.proofs.Filling.{length-filled}
 use Rattle.trees.specs.Tables.{cell}
 use Rattle.edge_totals.proofs.AllTotals.{filled-store, totals-move, at-last, spread-ready}

@@ -1,7 +1,6 @@
 -- `looks::write_all` meets its contract: the totals are worked out from the standard listing of the tree.
-use mathlib.Core.Path.{_≡_, ap, sym, _∙_, fun-ext}
+use mathlib.Core.Path.{ap, sym, _∙_, fun-ext}
 use Prim.Native.Nat.{_+_, _-_, _*_}
-use native.Mathlib.Omega.{arith}
 use borrow.Author.Needs.{needs}
 use Rattle.base.specs.Lists.{filled}
 use Rattle.looks.proofs.AllEdges.{last-edge, front-fits, front-long, given, front-total}

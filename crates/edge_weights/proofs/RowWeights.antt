@@ -1,28 +1,23 @@
 -- The weights of a row's children: the sums that code takes of the blocks of two classes, and of the new leaf's row,
--- are what a move of leaf n to a child's edge adds to the total gap and takes from it. So the totals at the children's
--- edges follow from that at the node's.
+-- are what a move of leaf n to a child's edge adds to the total gap and takes from it.
 use mathlib.Core.Path.{_≡_, _∙_}
 use mathlib.Core.List.{List}
 use Prim.Native.Nat.{ℕ, _+_, _-_, _*_, _<_}
 use native.Mathlib.Nat.{add-comm}
 use native.Mathlib.Omega.{arith}
 use lib.ListN.{getD}
-use Rattle.trees.specs.Trees.{Tree, leaves, size, IsTree}
+use Rattle.trees.specs.Trees.{Tree, leaves, size}
 use Rattle.trees.specs.Listings.{subtree-at, tree-of}
-use Rattle.trees.specs.Gaps.{total-gap}
-use Rattle.trees.proofs.Trees.{Apart, apart-sym}
-use Rattle.trees.proofs.Rules.{listing-tree}
-use Rattle.grafted_trees.specs.Grafts.{grafted}
-use Rattle.grafted_cells.specs.inner.Moves.{beyond, Moved, block-gap, new-row-gap}
-use Rattle.grafted_cells.proofs.MovedLeaf.{moved-first, moved-second}
-use Rattle.grafted_cells.proofs.Totals.{block-gap-turn, moved-total}
+use Rattle.trees.proofs.Trees.{Apart}
+use Rattle.grafted_cells.specs.inner.Moves.{beyond, block-gap}
+use Rattle.grafted_cells.proofs.Totals.{block-gap-turn}
 use Rattle.block_gaps.specs.inner.Blocks.{of-class}
-use Rattle.edge_totals.specs.inner.Classes.{Classified}
-use Rattle.edge_totals.specs.inner.Rows.{Given, BeforeRow}
-use Rattle.edge_totals.specs.inner.Weights.{Weighed, ChildWeighed, RowsWeighed}
-use Rattle.edge_totals.proofs.RowsJoined.{node-distinct, first-held, second-held}
-use Rattle.edge_totals.proofs.RowClasses.{block-inside, block-first, block-second}
-use Rattle.edge_totals.proofs.RowGaps.{own-is-table, child-edge, row-is}
+use Rattle.edge_weights.specs.inner.Classes.{Classified}
+use Rattle.edge_weights.specs.inner.Rows.{Given, BeforeRow}
+use Rattle.edge_weights.specs.inner.Weights.{Weighed, ChildWeighed}
+use Rattle.edge_weights.proofs.RowsJoined.{node-distinct, first-held, second-held}
+use Rattle.edge_weights.proofs.RowClasses.{block-inside, block-first, block-second}
+use Rattle.edge_weights.proofs.RowGaps.{own-is-table, child-edge, row-is}
 
 -- Row k: the numbers x and y are its children, with the labels a and b and the subtrees A and B.
 module _ {n s : ℕ} {l t u p : List ℕ} (g : Given n s l t u p) {k : ℕ} (row : k < n - 2) where
@@ -84,8 +79,6 @@ module _ {n s : ℕ} {l t u p : List ℕ} (g : Given n s l t u p) {k : ℕ} (row
               lost = h .lost ∙ rw (larger, inside (n - (size A + size B)), outside-second 0);
               in-row = h .in-row ∙ the-row;
               gain-small = h .gain-small;
-              loss-small = h .loss-small;
-              row-small = h .row-small;
             }
 
         pub weighed-second :
@@ -105,41 +98,4 @@ module _ {n s : ℕ} {l t u p : List ℕ} (g : Given n s l t u p) {k : ℕ} (row
                   );
               in-row = h .in-row ∙ the-row;
               gain-small = h .gain-small;
-              loss-small = h .loss-small;
-              row-small = h .row-small;
             }
-
-  -- Leaf n moves from the edge above the row's node to those above its children.
-  module _ {gains losses rows : List ℕ} (w : RowsWeighed n s l t u (n - 2) gains losses rows)
-      (known : getD rows (n + k) 0 ≡ new-row-gap n s u (tree-of n l) (n + k)) where
-    abbrev T : Tree
-    T = tree-of n l
-
-    tree : IsTree n T
-    tree = listing-tree n (g .count) l (g .keeps)
-
-    total-moves :
-        (e : ℕ) (X Y : Tree) {gain loss r : ℕ} → Moved n T (n + k) e X Y → Apart X Y
-        → Weighed n s t u T e X Y gain loss r
-        → total-gap (n + 1) s u (grafted n T e) + (loss + getD rows (n + k) 0)
-        ≡ total-gap (n + 1) s u (grafted n T (n + k)) + gain
-    total-moves e X Y moved apart h =
-        omega (
-          arith,
-          moved-total n s T t u (n + k) e X Y moved apart (g .is-table) (g .is-own),
-          h .gained,
-          h .lost,
-        )
-
-    pub total-first :
-        total-gap (n + 1) s u (grafted n T x) + (getD losses x 0 + getD rows (n + k) 0)
-        ≡ total-gap (n + 1) s u (grafted n T (n + k)) + getD gains x 0
-    total-first =
-        total-moves x A B (rw (g .is-standard) at (moved-first n (g .count) T tree k row)) apart (w .first k row)
-
-    pub total-second :
-        total-gap (n + 1) s u (grafted n T y) + (getD losses y 0 + getD rows (n + k) 0)
-        ≡ total-gap (n + 1) s u (grafted n T (n + k)) + getD gains y 0
-    total-second =
-        total-moves y B A (rw (g .is-standard) at (moved-second n (g .count) T tree k row)) (apart-sym A B apart)
-        (w .second k row)

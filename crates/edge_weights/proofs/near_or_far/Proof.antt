@@ -1,9 +1,9 @@
--- `edge_totals::near_or_far` meets its contract, by the two cases of the test.
+-- `edge_weights::near_or_far` meets its contract, by the two cases of the test.
 use borrow.Author.Tests.{ne-eqb}
 use Rattle.base.proofs.Bools.{eqb-same}
-use Rattle.edge_totals.specs.inner.NewRows.{count-at}
-use Rattle.edge_totals.proofs.near_or_far.Statement.{statement}
-use Rattle.edge_totals.proofs.near_or_far.Tie as tie
+use Rattle.edge_weights.specs.inner.NewRows.{count-at}
+use Rattle.edge_weights.proofs.near_or_far.Statement.{statement}
+use Rattle.edge_weights.proofs.near_or_far.Tie as tie
 
 returns : tie.Need-returns
 unfolding count-at

@@ -12,8 +12,8 @@ use Rattle.trees.proofs.Trees.{Apart}
 use Rattle.grafted_cells.specs.inner.Moves.{beyond, block-gap}
 use Rattle.grafted_cells.proofs.Totals.{block-gap-ext}
 use Rattle.block_gaps.specs.inner.Blocks.{of-class}
-use Rattle.edge_totals.specs.inner.Classes.{class-of, Classified}
-use Rattle.edge_totals.specs.inner.Rows.{Held}
+use Rattle.edge_weights.specs.inner.Classes.{class-of, Classified}
+use Rattle.edge_weights.specs.inner.Rows.{Held}
 
 pub beyond-turn : (A B : Tree) (k : ℕ) → beyond A B k ≡ beyond B A k
 unfolding beyond

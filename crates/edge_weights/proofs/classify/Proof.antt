@@ -1,4 +1,4 @@
--- `edge_totals::classify` meets its contract: the leaves before leaf j have their classes.
+-- `edge_weights::classify` meets its contract: the leaves before leaf j have their classes.
 use mathlib.Core.Path.{_≡_, _∙_}
 use Prim.Native.Nat.{_-_, _≤_}
 use native.Mathlib.Omega.{arith}
@@ -7,9 +7,9 @@ use borrow.Author.Needs.{needs}
 use lib.ListN.{length, length-set}
 use lib.Seq.{getD-set-same, getD-set-other}
 use Rattle.limits.specs.Limits.{most-leaves}
-use Rattle.edge_totals.specs.inner.Classes.{Classified}
-use Rattle.edge_totals.proofs.classify.Statement.{statement}
-use Rattle.edge_totals.proofs.classify.Tie as tie
+use Rattle.edge_weights.specs.inner.Classes.{Classified}
+use Rattle.edge_weights.proofs.classify.Statement.{statement}
+use Rattle.edge_weights.proofs.classify.Tie as tie
 
 abbrev Inv-loop : tie.InvT-loop
 Inv-loop n label a b classes₀ j₀ classes j =

@@ -29,8 +29,8 @@ use Rattle.state_arrays.specs.inner.Fits.{IsScale, ScaledCounts, SmallSums}
 use Rattle.state_arrays.specs.inner.Merged.{relabelled, MergeReady, Merged}
 use Rattle.state_arrays.proofs.StateArrays.{relabel-other, relabel-second, grow-first, grow-second, grow-none}
 use Rattle.state_arrays.proofs.StateArrays.{merged-label, pa, pb, merged-sum, merged-long, counts-small}
-use Rattle.edge_totals.specs.inner.Rows.{Given, Free, Held, BeforeRow}
-use Rattle.edge_totals.proofs.FreeNumbers.{free-before, first-free, second-free}
+use Rattle.edge_weights.specs.inner.Rows.{Given, Free, Held, BeforeRow}
+use Rattle.edge_weights.proofs.FreeNumbers.{free-before, first-free, second-free}
 
 -- Before the first row: each leaf has its own label.
 module _ (n s : ℕ) (l : List ℕ) (few : n ≤ most-leaves) (label₀ firsts₀ : List ℕ) {label firsts : List ℕ}

@@ -1,14 +1,13 @@
 -- What moving leaf n to the edge above a number adds to the total gap and takes from it. No public contract cites it.
 use mathlib.Core.Path.{_≡_}
 use mathlib.Core.List.{List}
-use Prim.Native.Nat.{ℕ, _+_, _-_, _*_, _≤_, _<_}
-use lib.ListN.{length, getD}
-use Rattle.limits.specs.Limits.{most-nodes}
+use Prim.Native.Nat.{ℕ, _+_, _-_, _*_, _≤_}
+use lib.ListN.{getD}
 use Rattle.trees.specs.Trees.{Tree, leaves, size}
 use Rattle.trees.specs.Listings.{subtree-at, tree-of}
 use Rattle.grafted_cells.specs.inner.Moves.{beyond, block-gap, new-row-gap}
 use Rattle.block_gaps.specs.inner.Blocks.{of-class, most-gaps}
-use Rattle.edge_totals.specs.inner.NewRows.{row-gap}
+use Rattle.edge_weights.specs.inner.NewRows.{row-gap}
 
 -- the number e of the subtree A, whose brother is B, under one node of the tree T: what is gained and lost where leaf n
 -- moves to its edge from the node's, but for the gaps in the row of leaf n at the node's edge; and the gaps in that row
@@ -24,8 +23,6 @@ pub record Weighed (n s : ℕ) (t u : List ℕ) (T : Tree) (e : ℕ) (A B : Tree
       + block-gap n s 0 t u (leaves B) (beyond A B)
   pub in-row : row ≡ new-row-gap n s u T e
   pub gain-small : gain ≤ 3 * most-gaps
-  pub loss-small : loss ≤ 2 * most-gaps
-  pub row-small : row ≤ most-gaps
 
 -- the same by classes and labels: the child of `own` leaves has the label f, and its brother the class y
 pub record ChildWeighed (n f own y between more-between s : ℕ) (classes label m p t u : List ℕ) (gain loss row : ℕ)
@@ -37,8 +34,6 @@ pub record ChildWeighed (n f own y between more-between s : ℕ) (classes label 
   pub lost : loss ≡ more-between + block-gap n s 0 t u (of-class classes y) (of-class classes 0)
   pub in-row : row ≡ row-gap n f own s label m p t u n
   pub gain-small : gain ≤ 3 * most-gaps
-  pub loss-small : loss ≤ 2 * most-gaps
-  pub row-small : row ≤ most-gaps
 
 -- both children of row k are weighed
 pub record RowWeighed (n s : ℕ) (l t u : List ℕ) (k gain loss row gain′ loss′ row′ : ℕ) : Type 0 where
@@ -48,24 +43,3 @@ pub record RowWeighed (n s : ℕ) (l t u : List ℕ) (k gain loss row gain′ lo
   pub second :
       Weighed n s t u (tree-of n l) (getD l (2 * k + 1) 0) (subtree-at n l (getD l (2 * k + 1) 0))
       (subtree-at n l (getD l (2 * k) 0)) gain′ loss′ row′
-
--- the number at place q of a listing, whose brother is named at place r, is weighed
-abbrev pub WeighedAt : (n s : ℕ) (l t u gains losses rows : List ℕ) (q r : ℕ) → Type 0
-WeighedAt n s l t u gains losses rows q r =
-    let e = getD l q 0 in
-    Weighed n s t u (tree-of n l) e (subtree-at n l e) (subtree-at n l (getD l r 0)) (getD gains e 0)
-    (getD losses e 0) (getD rows e 0)
-
--- the children of the rows before row k are weighed
-pub record RowsWeighed (n s : ℕ) (l t u : List ℕ) (k : ℕ) (gains losses rows : List ℕ) : Type 0 where
-  pub gains-long : length gains ≡ most-nodes
-  pub losses-long : length losses ≡ most-nodes
-  pub rows-long : length rows ≡ most-nodes
-  pub first : (q : ℕ) → q < k → WeighedAt n s l t u gains losses rows (2 * q) (2 * q + 1)
-  pub second : (q : ℕ) → q < k → WeighedAt n s l t u gains losses rows (2 * q + 1) (2 * q)
-
--- all numbers but the last are weighed, and the gaps in the row of leaf n at the edge above the last are known
-pub record AllWeighed (n s : ℕ) (l t u gains losses rows : List ℕ) : Type 0 where
-  pub weighed : RowsWeighed n s l t u (n - 2) gains losses rows
-  pub at-last : getD rows (2 * n - 3) 0 ≡ new-row-gap n s u (tree-of n l) (2 * n - 3)
-  pub last-small : getD rows (2 * n - 3) 0 ≤ most-gaps

@@ -30,9 +30,9 @@ use Rattle.grafted_cells.proofs.MovedLeaf.{child-named}
 use Rattle.block_gaps.specs.inner.Blocks.{TablesFit}
 use Rattle.state_arrays.specs.inner.Fits.{SmallSums}
 use Rattle.state_arrays.proofs.StateArrays.{counts-small}
-use Rattle.edge_totals.specs.inner.NewRows.{count-at, row-gap, RowGapFits}
-use Rattle.edge_totals.specs.inner.Rows.{Given, Held}
-use Rattle.edge_totals.proofs.RowsJoined.{held-most, size-fits}
+use Rattle.edge_weights.specs.inner.NewRows.{count-at, row-gap, RowGapFits}
+use Rattle.edge_weights.specs.inner.Rows.{Given, Held}
+use Rattle.edge_weights.proofs.RowsJoined.{held-most, size-fits}
 
 -- A listing, the table of its tree T, and a new table.
 module _ {n s : ℕ} {l t u p : List ℕ} (g : Given n s l t u p) where

@@ -1,9 +1,9 @@
--- `edge_totals::block` meets its contract: a block has the same gaps with its two sets exchanged.
+-- `edge_weights::block` meets its contract: a block has the same gaps with its two sets exchanged.
 use mathlib.Core.Path.{_∙_}
 use borrow.Author.Needs.{needs}
 use Rattle.grafted_cells.proofs.Totals.{block-gap-turn}
-use Rattle.edge_totals.proofs.block.Statement.{statement}
-use Rattle.edge_totals.proofs.block.Tie as tie
+use Rattle.edge_weights.proofs.block.Statement.{statement}
+use Rattle.edge_weights.proofs.block.Tie as tie
 
 returns : tie.Need-returns
 returns c =

@@ -1,17 +1,13 @@
 -- The gaps in the row of the new leaf, added up: no cell, and one more; and that no count is too large.
-use mathlib.Core.Path.{_≡_, refl, _∙_}
-use mathlib.Core.Logic.{inl, inr}
+use mathlib.Core.Path.{_≡_, refl}
 use mathlib.Core.List.{List}
-use Prim.Native.Nat.{ℕ, _+_, _-_, _*_, _^_, _≤_, _<_}
-use native.Mathlib.Nat.{mul-le-mul}
+use Prim.Native.Nat.{ℕ, _+_, _-_, _*_, _^_, _<_}
 use native.Mathlib.Omega.{arith}
-use lib.Dec.{eqb}
 use lib.ListN.{getD}
 use Rattle.base.specs.Numbers.{sum-below, distance}
-use Rattle.base.proofs.Bools.{bool?}
 use Rattle.base.proofs.Sums.{sum-more}
 use Rattle.trees.specs.Tables.{cell}
-use Rattle.edge_totals.specs.inner.NewRows.{count-at, row-gap, RowGapAdded}
+use Rattle.edge_weights.specs.inner.NewRows.{count-at, row-gap, RowGapAdded}
 
 module _ {n f size s : ℕ} {label m p t u : List ℕ} where
   pub gaps-begun : RowGapAdded n f size s label m p t u 0 0

@@ -1,9 +1,9 @@
--- `edge_totals::class_of` meets its contract, by its three cases.
+-- `edge_weights::class_of` meets its contract, by its three cases.
 use borrow.Author.Tests.{ne-eqb}
 use Rattle.base.proofs.Bools.{eqb-same}
-use Rattle.edge_totals.specs.inner.Classes.{class-of}
-use Rattle.edge_totals.proofs.class_of.Statement.{statement}
-use Rattle.edge_totals.proofs.class_of.Tie as tie
+use Rattle.edge_weights.specs.inner.Classes.{class-of}
+use Rattle.edge_weights.proofs.class_of.Statement.{statement}
+use Rattle.edge_weights.proofs.class_of.Tie as tie
 
 returns : tie.Need-returns
 unfolding class-of

@@ -1,19 +1,19 @@
--- `edge_totals::weigh_row` meets its contract: the leaves of the two children are those of two classes.
+-- `edge_weights::weigh_row` meets its contract: the leaves of the two children are those of two classes.
 use mathlib.Core.Path.{_≡_, _∙_}
-use Prim.Native.Nat.{_+_, _*_, _≤_, _<_}
+use Prim.Native.Nat.{_+_, _*_, _≤_}
 use native.Mathlib.Omega.{arith}
 use borrow.Author.Needs.{needs}
 use lib.ListN.{getD}
 use Rattle.limits.specs.Limits.{most-leaves}
 use Rattle.trees.specs.Listings.{subtree-at}
 use Rattle.listings.proofs.Rows.{RowOf, row-read}
-use Rattle.edge_totals.specs.inner.NewRows.{RowGapFits}
-use Rattle.edge_totals.specs.inner.Rows.{Held}
-use Rattle.edge_totals.proofs.RowsJoined.{first-held, second-held, merge-ready}
-use Rattle.edge_totals.proofs.RowGaps.{own-is-table, tables-fit, child-edge, row-fits}
-use Rattle.edge_totals.proofs.RowWeights.{weighed-first, weighed-second}
-use Rattle.edge_totals.proofs.weigh_row.Statement.{statement}
-use Rattle.edge_totals.proofs.weigh_row.Tie as tie
+use Rattle.edge_weights.specs.inner.NewRows.{RowGapFits}
+use Rattle.edge_weights.specs.inner.Rows.{Held}
+use Rattle.edge_weights.proofs.RowsJoined.{first-held, second-held, merge-ready}
+use Rattle.edge_weights.proofs.RowGaps.{own-is-table, tables-fit, child-edge, row-fits}
+use Rattle.edge_weights.proofs.RowWeights.{weighed-first, weighed-second}
+use Rattle.edge_weights.proofs.weigh_row.Statement.{statement}
+use Rattle.edge_weights.proofs.weigh_row.Tie as tie
 
 -- the row that is read
 the-row :

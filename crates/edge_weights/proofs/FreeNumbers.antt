@@ -17,8 +17,8 @@ use Rattle.trees.specs.Listings.{KeepsRules}
 use Rattle.trees.specs.inner.Forests.{unused, use-row, uses, lawful}
 use Rattle.trees.proofs.Forests.{unused-is, last-alone}
 use Rattle.trees.proofs.Rules.{to-lawful}
-use Rattle.trees.proofs.SubtreesByRow.{child-before, named-once}
-use Rattle.edge_totals.specs.inner.Rows.{Free}
+use Rattle.trees.proofs.SubtreesByRow.{child-before, child-positive, named-once}
+use Rattle.edge_weights.specs.inner.Rows.{Free}
 
 -- what is free after row k is its node, or was free before it and is no child of it
 pub free-before :
@@ -60,14 +60,26 @@ unnamed-left live r m (a ∷ b ∷ l) long e there h =
 
 -- A listing that keeps the rules.
 module _ (n : ℕ) (l : List ℕ) (count : IsLeafCount n) (keeps : KeepsRules n l) where
+  -- the number at a place is below the last, and no other place names it
+  pub child-range : (q : ℕ) → q < 2 * (n - 2) → (0 < getD l q 0) × (getD l q 0 < 2 * n - 3)
+  child-range q h =
+      let long = keeps .numbers in (
+        child-positive n l (omega (arith, count)) keeps q (omega arith),
+        omega (arith, child-before n l count keeps q (omega arith), count),
+      )
+
+  pub children-differ : (q r : ℕ) → q < 2 * (n - 2) → r < 2 * (n - 2) → q ≢ r → getD l q 0 ≢ getD l r 0
+  children-differ q r hq hr d =
+      let long = keeps .numbers in
+      named-once n l (omega (arith, count)) keeps q r (omega arith) (omega arith) d
+
   -- a child of row k, at one of its two places
   child-free : (k p : ℕ) → k < n - 2 → 2 * k ≤ p → p < 2 * k + 2 → Free n l k (getD l p 0)
   child-free k p row low high =
       let long = keeps .numbers in
       record {
         made = omega (arith, child-before n l count keeps p (omega arith));
-        unnamed = λ q early.
-            named-once n l (omega (arith, count)) keeps q p (omega arith) (omega arith) (omega arith);
+        unnamed = λ q early. children-differ q p (omega arith) (omega arith) (omega arith);
       }
 
   module _ (k : ℕ) (row : k < n - 2) where
@@ -76,11 +88,6 @@ module _ (n : ℕ) (l : List ℕ) (count : IsLeafCount n) (keeps : KeepsRules n 
 
     pub second-free : Free n l k (getD l (2 * k + 1) 0)
     second-free = child-free k (2 * k + 1) row (omega arith) (omega arith)
-
-    pub children-differ : getD l (2 * k) 0 ≢ getD l (2 * k + 1) 0
-    children-differ =
-        let long = keeps .numbers in
-        named-once n l (omega (arith, count)) keeps (2 * k) (2 * k + 1) (omega arith) (omega arith) (omega arith)
 
     -- its node, after it
     pub node-free : Free n l (k + 1) (n + k)

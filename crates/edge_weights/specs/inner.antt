@@ -1,0 +1,4 @@
+pub mod Classes
+pub mod NewRows
+pub mod Rows
+pub mod Weights
