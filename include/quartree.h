@@ -487,8 +487,9 @@ uint64_t quartree_graft(size_t n, const uint16_t *listing, size_t len, const uin
    when edge is not 1 to QUARTREE_EDGES(n), or the table kept is not the tree's own.
    Accepted: the figure is the total gap, which is below 2^45 and so told whole. It equals what comes of grafting a copy
    by quartree_graft, and adding up the sizes of what quartree_gap writes for it and the new table, over all i < j
-   ('look-is-graft-and-gap'). It is 0 exactly where the grafted tree has the new table ('look-zero'), and so at one edge
-   at most ('look-zero-once'). There is no output. */
+   ('look-is-graft-and-gap'); both are accepted wherever this call is, if they have room ('graft-and-gap-accepted'). It
+   is 0 exactly where the grafted tree has the new table ('look-zero'), and so at one edge at most ('look-zero-once').
+   There is no output. */
 uint64_t quartree_look(size_t n, uint32_t poll, const uint16_t *listing, size_t len, const uint32_t *table,
                        size_t cells, size_t edge, const uint32_t *new_table, size_t new_cells);
 

@@ -1,6 +1,6 @@
--- What a maker may rely on of a look. Its figure is what grafting a copy and adding up the gaps gives; it is 0 exactly
--- where the grafted tree has the new table, and that at one edge at most; and a look at all edges says of each what a
--- look at that edge says.
+-- What a maker may rely on of a look. Its figure is what grafting a copy and adding up the gaps gives, and wherever a
+-- look is accepted that can be done; it is 0 exactly where the grafted tree has the new table, and that at one edge at
+-- most; and a look at all edges says of each what a look at that edge says.
 use mathlib.Core.Path.{_≡_, refl, ap, sym, _∙_}
 use mathlib.Core.Logic.{_↔_}
 use mathlib.Core.Bool.{true}
@@ -10,7 +10,6 @@ use Prim.Native.Nat.{ℕ, zero, suc, _+_, _-_, _*_, _^_, _≤_, _<_}
 use native.Mathlib.Omega.{arith}
 use native.Mathlib.Decide.{decLt, ℕ-discrete}
 use borrow.Author.Tests.{lt-ltb, le-ltb}
-use lib.Dec.{ltb}
 use lib.IntN.{ℤ, pos, natAbs, _-ℤ_}
 use lib.ListN.{getD}
 use Rattle.base.specs.Numbers.{pair-sum, distance}
@@ -19,10 +18,10 @@ use Rattle.base.proofs.Sums.{pair-sum-ext}
 use Rattle.base.proofs.Lists.{getD-tab}
 use Rattle.limits.specs.declared.Kind.{Kind}
 use Rattle.limits.specs.declared.Kind.the-variants.{Counts, Poll}
-use Rattle.limits.specs.Limits.{scale-of, largest-cell}
+use Rattle.limits.specs.Limits.{IsLeafCount, scale-of, largest-cell}
 use Rattle.limits.proofs.TableKinds.{leaf-count-of, scale-bounds}
 use Rattle.refusals.specs.Refusals.{accepted, answered}
-use Rattle.refusals.proofs.Answers.{answered-accepted}
+use Rattle.refusals.proofs.Answers.{answered-accepted, accepted-same}
 use Rattle.checks.proofs.Sizes.{room-passes}
 use Rattle.trees.specs.Trees.{Tree, IsTree}
 use Rattle.trees.specs.Listings.{tree-of, standard}
@@ -30,7 +29,7 @@ use Rattle.trees.specs.Quartets.{quartets}
 use Rattle.trees.specs.Tables.{cell, HasTable}
 use Rattle.trees.specs.Gaps.{gap-size, total-gap}
 use Rattle.trees.proofs.Rules.{listing-tree}
-use Rattle.trees.proofs.Listings.{standard-stands}
+use Rattle.trees.proofs.Listings.{tree-listing, standard-stands}
 use Rattle.trees.proofs.Quartets.{quartets-diagonal}
 use Rattle.trees.proofs.Tables.{to-cells}
 use Rattle.trees.proofs.Gaps.{gap-zero, gap-fits, ordered-gap}
@@ -40,11 +39,11 @@ use Rattle.grafted_trees.proofs.EdgeNumbers.{edge-range}
 use Rattle.grafted_trees.proofs.Grafts.{grafted-tree, grafted-ordered, grafted-once}
 use Rattle.change_answers.specs.declared.Change.the-variants.{Graft}
 use Rattle.change_answers.specs.Operations.{change-answer}
-use Rattle.change_answers.proofs.Accepted.{Accepted as ChangeAccepted}
+use Rattle.change_answers.proofs.Accepted.{Accepted as ChangeAccepted, change-passes}
 use Rattle.change_answers.proofs.Promises.{accepted-all, listing-is}
 use Rattle.gaps.specs.Operations.{gaps, gap-refusal, gap-answer}
 use Rattle.gaps.proofs.GapLaws.{gap-is}
-use Rattle.gaps.proofs.GapAnswers.{accepted-both}
+use Rattle.gaps.proofs.GapAnswers.{accepted-both, gap-passes}
 use Rattle.look_answers.specs.Operations.{look-refusal, look-total, look-answer, look-all-answer}
 use Rattle.look_answers.proofs.Accepted.{Accepted, accepted-look, look-passes}
 
@@ -164,6 +163,55 @@ module _ (kind : Kind) (n : ℕ) (l t u : List ℕ) where
         let w = look-accepted in
         grafted-tree n (tree-of n l) (w .sizes .count .0) (listing-tree n (w .sizes .count) l (w .keeps)) e
         (w .is-there)
+
+    -- Grafting a copy and measuring it, with room for both, are accepted too, and give this figure.
+    module _ (room space gap-room : ℕ) (enough : 2 * (n - 1) ≤ room) (square : (n + 1) * (n + 1) ≤ space)
+        (measured : (n + 1) * (n + 1) ≤ gap-room) where
+      abbrev l′ : List ℕ
+      l′ = standard (n + 1) (grafted n (tree-of n l) e)
+
+      abbrev g : List ℤ
+      g = gaps (n + 1) (scale-of kind) u (tree-of (n + 1) (standard (n + 1) (grafted n (tree-of n l) e)))
+
+      new-count : IsLeafCount (n + 1)
+      new-count = leaf-count-of kind (n + 1) (look-accepted .sizes .new-count)
+
+      graft-accepted : change-answer n l t (Graft e) room space ≡ accepted l′
+      unfolding change-answer answered
+      graft-accepted =
+          let w = look-accepted in
+          rw (change-passes n l t (Graft e) room space (record {
+            count = w .sizes .count;
+            new-count = new-count;
+            keeps = w .keeps;
+            cells = w .sizes .cells;
+            enough = omega arith;
+            enough-cells = square;
+            there = w .is-there;
+            is-own = w .is-own;
+          }))
+
+      gap-accepted : gap-answer kind (n + 1) u l′ gap-room ≡ accepted g
+      unfolding gap-answer answered
+      gap-accepted =
+          rw (gap-passes kind (n + 1) u l′ gap-room (record {
+            count = look-accepted .sizes .new-count;
+            is-table = look-accepted .is-table;
+            keeps = tree-listing (n + 1) new-count (G e) grafted-is .0;
+            room-enough = measured;
+          }))
+
+      pub graft-and-gap-accepted :
+          (l′ : List ℕ) × (g : List ℤ) × (change-answer n l t (Graft e) room space ≡ accepted l′)
+          × (gap-answer kind (n + 1) u l′ gap-room ≡ accepted g) × (x ≡ gap-sizes (n + 1) g)
+      graft-and-gap-accepted = (
+        l′,
+        g,
+        graft-accepted,
+        gap-accepted,
+        accepted-same x (gap-sizes (n + 1) g)
+            (sym given ∙ look-is-graft-and-gap kind n l t u e room space gap-room l′ g graft-accepted gap-accepted),
+      )
 
   -- at one edge at most
   pub look-zero-once :
