@@ -10,7 +10,7 @@ use limits::MOST_LEAVES;
 use numbers::apart;
 
 // The gaps with the cells of the tree's own table as they are, and with each of them so many larger.
-#[derive(Drop)]
+#[derive(Clone, Copy)]
 pub struct Sums {
     pub as_is: u64,
     pub larger: u64,

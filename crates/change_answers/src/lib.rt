@@ -1,7 +1,7 @@
 // The changes of a tree: the answers of graft and prune, and what follows of them. There is no code here.
 
 // A change of a tree on n leaves.
-#[derive(Drop)]
+#[derive(Clone, Copy)]
 pub enum Change {
     // leaf n is put on this edge, named by the node below it in the standard listing
     Graft(usize),

@@ -18,7 +18,7 @@ use numbers::{apart, index_of_u32};
 
 // What moving leaf n from the edge above a node to that above its child adds to the total gap, and what it takes from
 // it, but for the gaps in the row of leaf n at the node's edge; and those gaps at the child's edge.
-#[derive(Drop)]
+#[derive(Clone, Copy)]
 pub struct Weight {
     pub gain: u64,
     pub loss: u64,
@@ -26,7 +26,7 @@ pub struct Weight {
 }
 
 // The weights of the two children of a row.
-#[derive(Drop)]
+#[derive(Clone, Copy)]
 pub struct Weights {
     pub first: Weight,
     pub second: Weight,

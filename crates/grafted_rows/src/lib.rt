@@ -13,7 +13,7 @@ use listings::Row;
 use standard_listings::{children, standard_rows};
 
 // What is known of a subtree once its rows are written: the next row, and the number by which a row names it.
-#[derive(Drop)]
+#[derive(Clone, Copy)]
 struct Written {
     next: usize,
     number: u16,

@@ -20,7 +20,7 @@ use tree_records::Origin;
 
 // What the guess answers: the origin of the tree whose listing stands in the lent buffer, and its total gap to the
 // table.
-#[derive(Drop)]
+#[derive(Clone, Copy)]
 pub enum GuessOutcome {
     Tree(Origin, u64),
     Refused(Refusal),

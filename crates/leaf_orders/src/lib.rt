@@ -16,7 +16,7 @@ pub const WHOLE: u32 = (2 * MOST_LEAVES * MOST_LEAVES) as u32;
 
 // The children of a number: the first, how many leaves it has, and what branches off above it; the second, what
 // branches off above it, and the depth before its first leaf.
-#[derive(Drop)]
+#[derive(Clone, Copy)]
 struct Children {
     first: usize,
     width: usize,

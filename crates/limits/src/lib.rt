@@ -35,7 +35,7 @@ pub const MOST_POLLED: usize = 32;
 pub const MOST_POLL_CELLS: usize = MOST_POLLED * MOST_POLLED;
 
 // What a table counts: the quartets of a tree, or the records of a poll.
-#[derive(Drop)]
+#[derive(Clone, Copy)]
 pub enum Kind {
     Counts,
     Poll,

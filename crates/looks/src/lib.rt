@@ -21,7 +21,7 @@ use standard_listings::standard_rows;
 use state_arrays::scaled_counts;
 
 // What a look answers: the total gap, or why there is none.
-#[derive(Drop)]
+#[derive(Clone, Copy)]
 pub enum LookOutcome {
     Total(u64),
     Refused(Refusal),

@@ -11,7 +11,7 @@ use limits::{MOST_LEAVES, MOST_PAIRS};
 use numbers::index_of_u32;
 
 // Two labels, the smaller first, with the sum of their cells' gaps and the number of their cells.
-#[derive(Drop)]
+#[derive(Clone, Copy)]
 pub struct Pair {
     pub first: usize,
     pub second: usize,

@@ -15,7 +15,7 @@ use refusals::{Outcome, Refusal};
 use sheets::Figures;
 
 // What export answers: how many bytes it wrote, and whether it refused; then it wrote none.
-#[derive(Drop)]
+#[derive(Clone, Copy)]
 pub struct Exported {
     pub length: usize,
     pub outcome: Outcome,

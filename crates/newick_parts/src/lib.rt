@@ -8,7 +8,7 @@ use rerooted_rows::join;
 
 // What is kept beside the arrays: the number of the last drawing; whether all nodes are binary so far, apart from a
 // three-way top, and all names known and new; how many leaves are named, rows written and numbers in the chain.
-#[derive(Drop)]
+#[derive(Clone, Copy)]
 pub struct Kept {
     pub last: u16,
     pub binary: bool,

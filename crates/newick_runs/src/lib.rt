@@ -9,7 +9,7 @@ use name_index::hash_byte;
 use newick_states::{AT_LENGTH, IN_LENGTH, IN_NAME, is_blank, is_length_byte};
 
 // The byte behind a run, and the hash of the name that it may be in.
-#[derive(Drop)]
+#[derive(Clone, Copy)]
 pub struct Run {
     pub to: usize,
     pub hash: u64,

@@ -15,7 +15,7 @@ use refusals::{Outcome, Refusal};
 mod names;
 
 // What reading a text answers, and, where nothing is refused, how many rows it wrote and numbers the chain has.
-#[derive(Drop)]
+#[derive(Clone, Copy)]
 pub struct Read {
     pub outcome: Outcome,
     pub rows: usize,

@@ -16,7 +16,7 @@ use refusals::{Outcome, Refusal};
 
 // The quartet due, and what is ready for its record: its leaves in one number, where the rows of its first three leaves
 // begin among the sums, and what is kept back for the cells of these three, three numbers in one.
-#[derive(Drop)]
+#[derive(Clone, Copy)]
 pub struct Due {
     pub quartet: Quartet,
     pub leaves: usize,

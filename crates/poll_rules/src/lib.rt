@@ -2,7 +2,7 @@
 
 // One record of a poll: four leaves a < b < c < d, and a pairing code.
 #[repr(C)]
-#[derive(Drop)]
+#[derive(Clone, Copy)]
 pub struct Record {
     pub a: u8,
     pub b: u8,
@@ -12,7 +12,7 @@ pub struct Record {
 }
 
 // Four leaves, a < b < c < d.
-#[derive(Drop)]
+#[derive(Clone, Copy)]
 pub struct Quartet {
     pub a: usize,
     pub b: usize,

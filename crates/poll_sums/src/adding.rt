@@ -15,7 +15,7 @@ use poll_records::{Due, begin, next};
 use poll_rules::Quartet;
 
 // A cell above the diagonal, and where it stands among the sums.
-#[derive(Drop)]
+#[derive(Clone, Copy)]
 pub struct Place {
     pub row: usize,
     pub column: usize,

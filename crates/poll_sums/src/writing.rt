@@ -8,7 +8,7 @@ ghost use Rattle.poll_sums.specs.inner.Sums.{mirrored_sum};
 use limits::MOST_POLL_CELLS;
 
 // A cell of a table.
-#[derive(Drop)]
+#[derive(Clone, Copy)]
 pub struct Cell {
     pub row: usize,
     pub column: usize,

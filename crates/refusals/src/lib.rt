@@ -2,7 +2,7 @@ ghost use Rattle.std.specs.Prelude.{◌≡◌};
 ghost use Rattle.refusals.specs.Refusals.{number_of};
 
 // The causes of refusal, in the order of their numbers. A figure counts from 0.
-#[derive(Drop)]
+#[derive(Clone, Copy)]
 pub enum Refusal {
     // 1: the leaf count is outside 3 to 128 (of a poll and of its table, 4 to 32)
     LeafCount,
@@ -47,14 +47,14 @@ pub enum Refusal {
 }
 
 // What an operation answers when its result, if it has one, stands in a lent buffer.
-#[derive(Drop)]
+#[derive(Clone, Copy)]
 pub enum Outcome {
     Done,
     Refused(Refusal),
 }
 
 // What an operation answers that says yes or no.
-#[derive(Drop)]
+#[derive(Clone, Copy)]
 pub enum Verdict {
     Yes,
     No,

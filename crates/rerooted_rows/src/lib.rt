@@ -7,7 +7,7 @@ ghost use Rattle.rerooted_rows.specs.inner.Arrays.{JoinFits, Joins, with_chain, 
 use limits::{MOST_LEAVES, MOST_NUMBERS};
 
 // Two subtrees joined: their number, and how many rows and numbers in the chain there are then.
-#[derive(Drop)]
+#[derive(Clone, Copy)]
 pub struct Joined {
     pub number: u16,
     pub rows: usize,

@@ -10,7 +10,7 @@ use limits::SET_BYTES;
 pub mod words;
 
 // What is made of two sets: joined they have the leaves of either, intersected those of both.
-#[derive(Drop)]
+#[derive(Clone, Copy)]
 pub enum Combination {
     Union,
     Intersection,

@@ -11,7 +11,7 @@ use refusals::{Outcome, Refusal};
 use sheets::Sheet;
 
 // A strain's name as the bytes of the sheet themselves, and whether it is refused: then there are no bytes.
-#[derive(Drop)]
+#[derive(Clone, Copy)]
 pub struct Named<'a> {
     pub bytes: &'a [u8],
     pub outcome: Outcome,
@@ -19,7 +19,7 @@ pub struct Named<'a> {
 
 // Where a strain's name stands in its sheet, the place of its first byte and how many bytes it has, and whether it is
 // refused: then both are 0.
-#[derive(Drop)]
+#[derive(Clone, Copy)]
 pub struct NamePlace {
     pub first: usize,
     pub many: usize,

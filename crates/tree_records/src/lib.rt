@@ -6,7 +6,7 @@ ghost use Rattle.tree_records.specs.inner.Outcomes.{marked_outcome};
 use refusals::{Outcome, Refusal};
 
 // Where a tree came from, in the order of the numbers that C sees.
-#[derive(Drop)]
+#[derive(Clone, Copy)]
 pub enum Origin {
     // 0: a rebuild made it, and it has the table that the rebuild was given
     Rebuilt,
@@ -53,7 +53,7 @@ pub fn origin_of(number: u32) -> Origin
 }
 
 // What an operation answers that makes a tree record: the origin of the tree whose listing stands in the lent buffer.
-#[derive(Drop)]
+#[derive(Clone, Copy)]
 pub enum TreeOutcome {
     Marked(Origin),
     Refused(Refusal),

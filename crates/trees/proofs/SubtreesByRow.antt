@@ -103,7 +103,7 @@ part_left w [] h X k p i = (k, p, i)
 part_left w (a ∷ []) h X k p i = (k, p, i)
 part_left {r = r} {f} {live} w (a ∷ b ∷ l) h X k p i =
     let row = row_lawful live r a b l h in
-    let left = part_left (after_row w row) l row.rest X in
+    let left = part_left {r = suc r} (after_row w row) l row.rest X in
     let made = live_r w a b row.first row.second row.differ in
     elim (ℕ_discrete k a) [
       | yes e ↦ left r made (rw (row_new f r a b) (inr (inl (rw e at i))))
@@ -136,7 +136,7 @@ rows_distinct_below {r = r} {f} {live} w (a ∷ b ∷ l) m zero e h g =
 rows_distinct_below {r = r} {live = live} w (a ∷ b ∷ l) m (suc t) e h g =
     let p = row_lawful live r a b l g in
     let next : r + suc t ≡ suc r + t = omega arith in
-    rw next (rows_distinct_below (after_row w p) l (m - 1) t (omega arith) (omega arith) p.rest)
+    rw next (rows_distinct_below {r = suc r} (after_row w p) l (m - 1) t (omega arith) (omega arith) p.rest)
 
 -- under each number stand distinct leaves below n
 pub distinct_below :
