@@ -1,0 +1,12 @@
+-- `edge_weights::block` meets its contract: a block has the same gaps with its two sets exchanged.
+use mathlib.Core.Path.{◌∙◌}
+use Rattle.grafted_cells.proofs.Totals.{block_gap_turn}
+use Rattle.edge_weights.proofs.block.Goals as goal
+
+pub returns-then-columns-rows : goal.returns-then-columns-rows
+returns-then-columns-rows c =
+    let p = c.requires in
+    let e = c.add_block.ensures in (
+      (e.0.0 ∙ block_gap_turn _ _ _ _ _ _ _ p.3 p.2, e.0.1),
+      (e.1.0 ∙ block_gap_turn _ _ _ _ _ _ _ p.3 p.2, e.1.1),
+    )

@@ -1,0 +1,53 @@
+-- `guided_rebuild::guided_checked` meets its contract: a proposal is refused, or our own rebuild has the same result.
+use mathlib.Core.Path.{◌≡◌}
+use Rattle.limits.specs.Limits.{scale_of}
+use Rattle.refusals.specs.Refusals.{outcome, written}
+use Rattle.merging.specs.inner.Runs.{halt}
+use Rattle.state_arrays.specs.inner.Fits.{counts_scale, Given}
+use Rattle.state_arrays.proofs.StateArrays.{counts_given, holds_start}
+use Rattle.eligible_pairs.proofs.Lent.{no_bytes}
+use Rattle.guided_rebuild.proofs.Proposals.{guided_at, guided_whole}
+use Rattle.guided_rebuild.proofs.guided_checked.Goals.{After-scaled_counts-p}
+use Rattle.guided_rebuild.proofs.guided_checked.Goals as goal
+
+-- what the proposals are tried on, at the scale of the table
+given :
+    (c : After-scaled_counts-p)
+    → let a = c.args in
+    let p = c.scaled_counts-p.result in
+    (counts_scale p ≡ scale_of a.kind) × Given a.n (counts_scale p) a.table.now p
+given c =
+    counts_given c.args.kind _ _ _ c.requires.0 c.requires.1 c.scaled_counts-p.ensures
+
+pub accepted_steps-k-requires : goal.accepted_steps-k-requires
+accepted_steps-k-requires c = (
+  (given (goal.at.accepted_steps-k-requires c).After-scaled_counts-p).1,
+  c.requires.3,
+  record { came = halt; holds = holds_start c.args.n c.requires.0.1 c.own_numbers.ensures },
+)
+
+-- the place before the proposals
+abbrev counted : tie.After-accepted-steps → tie.After-scaled-counts
+counted c = c.before.before.before.before.before.before.before.before
+
+pub returns : goal.returns
+unfolding outcome written
+returns c =
+    let at-step = guided_at c.accepted_steps-k.ensures c.if-k-n.true in
+    let e = rw (given (counted (goal.at.returns c).After-out-1)).0 at at-step in
+    (rw e, rw e)
+
+pub rebuild_checked-requires : goal.rebuild_checked-requires
+rebuild_checked-requires c =
+    let s = (counted (goal.at.rebuild_checked-requires c).Else-k-n).before.before.before.before in
+    (s.pre.0, rw (no_bytes s.args.n s.args.table.now) s.pre.1, s.pre.2)
+
+pub returns : goal.returns
+returns c =
+    let g = given (counted (goal.at.returns c).Else-k-n) in
+    let s = (counted (goal.at.returns c).Else-k-n).before.before.before.before in
+    let whole =
+    guided_whole c.accepted_steps-k.ensures s.pre.0 g.1.scaled.0 s.pre.1 s.pre.3
+    c.if-k-n.false in
+    let e = rw g.0 at whole in
+    rw e (rw (no_bytes s.args.n s.args.table.now) at c.rebuild_checked.ensures)

@@ -1,0 +1,38 @@
+-- `leaf_merges::partner` meets its contract. The loop's invariant: no label passed may be merged with `a`.
+use mathlib.Core.Path.{sym, ◌∙◌}
+use mathlib.Core.Logic.{inl, inr}
+use Prim.Native.Nat.{◌-◌}
+use native.Mathlib.Omega.{arith}
+use borrow.Author.Count.{below_more}
+use Rattle.base.proofs.Bools.{never}
+use Rattle.leaf_merges.proofs.partner.Goals as goal
+
+pub loop-b-init : goal.loop-b-init
+loop-b-init c = (omega arith, omega arith, λ i l al. absurd (omega arith))
+
+pub returns-then-pair_fits : goal.returns-then-pair_fits
+returns-then-pair_fits c =
+    let own = sym c.index_of_u32.ensures ∙ c.if-index_of_u32-b.true in
+    record {
+      within = omega arith;
+      hit = λ l. (omega arith, (own, c.pair_fits.ensures.0 c.if-pair_fits.true));
+      miss = λ l. absurd (omega arith);
+    }
+
+pub loop-b-preserved : goal.loop-b-preserved
+loop-b-preserved c =
+    let seen = c.loop-b.invariant.2 in (
+      omega arith,
+      omega arith,
+      below_more _ _ seen (λ l q. elim c.if-index_of_u32-b.branch [
+        | inl w ↦ never (w.1.ensures.1 q.1) w.2.left
+        | inr w ↦ w.left (c.index_of_u32.ensures ∙ q.0)
+      ]),
+    )
+
+pub returns : goal.returns
+returns c = record {
+  within = omega arith;
+  hit = λ l. absurd (omega arith);
+  miss = λ l b ab bn q. c.loop-b.invariant.2 b (omega arith) ab q;
+}

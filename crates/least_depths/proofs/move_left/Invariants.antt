@@ -1,0 +1,18 @@
+-- `least_depths::move_left` meets its contract: the places from t to p have their least depths, and where it stops the
+-- least depth to place p - 1 is that to place p.
+use mathlib.Core.Path.{◌≡◌}
+use mathlib.Core.Logic.{◌⊎◌}
+use Prim.Native.Nat.{ℕ, ◌-◌, ◌<◌}
+use lib.ListN.{length}
+use Rattle.limits.specs.Limits.{most_leaves}
+use Rattle.leaf_orders.specs.inner.Orders.{at}
+use Rattle.least_depths.specs.inner.Depths.{LeastBetween, Before}
+use Rattle.least_depths.proofs.move_left.Given as goal
+
+abbrev pub invariant-loop-tops : goal.invariant-loop-tops
+invariant-loop-tops l =
+    (l.t < l.p) × (length l.tops ≡ most_leaves) × LeastBetween l.depths l.t l.p l.low × Before l.order l.depths l.p l.tops l.t
+    × ((s : ℕ) → (s < l.t) ⊎ (l.p < s) → s < l.n → at l.tops (at l.order s) ≡ at l.initial.tops (at l.order s))
+
+abbrev pub decreases-loop-tops : goal.decreases-loop-tops
+decreases-loop-tops l = l.t

@@ -1,0 +1,87 @@
+-- `looks::judge_sizes` meets its contract: the two leaf counts, the three lengths and the room, one after the other.
+use mathlib.Core.Path.{◌≡◌, sym, ◌∙◌}
+use Prim.Native.Nat.{◌+◌, ◌-◌, ◌*◌}
+use native.Mathlib.Omega.{arith}
+use borrow.Author.Rules.{rules}
+use Rattle.limits.specs.Limits.{IsLeafCount, IsCountOf}
+use Rattle.limits.proofs.TableKinds.{leaf_count_of}
+use Rattle.checks.proofs.Sizes.{is_count, is_leaf_count}
+use Rattle.looks.proofs.Refusals.{count_told, new_count_told, numbers_told, cells_told, new_cells_told}
+use Rattle.looks.proofs.Refusals.{room_told, sizes_told}
+use Rattle.looks.proofs.judge_sizes.Goals.{Else-cells-table_cells, Else-new_cells-table_cells, Else-not-leaf_count, Else-not-leaf_count_of, Else-numbers-listing_numbers}
+use Rattle.looks.proofs.judge_sizes.Goals as goal
+
+pub returns-then-not-leaf_count : goal.returns-then-not-leaf_count
+returns-then-not-leaf_count c = count_told _ _ _ _ _ _ _ (sym c.leaf_count.ensures ∙ c.if-not-leaf_count.true)
+
+count : (c : Else-not-leaf_count) → IsLeafCount c.args.n
+count c = is_leaf_count _ (sym c.leaf_count.ensures ∙ c.if-not-leaf_count.false)
+
+pub returns-then-not-leaf_count_of : goal.returns-then-not-leaf_count_of
+returns-then-not-leaf_count_of c =
+    new_count_told _ _ _ _ _ _ _ (count (goal.at.returns-then-not-leaf_count_of c).Else-not-leaf_count)
+    (sym c.leaf_count_of.ensures ∙ c.if-not-leaf_count_of.true)
+
+new_count : (c : Else-not-leaf_count_of) → let a = c.args in IsCountOf a.kind (a.n + 1)
+new_count c =
+    let a = c.args in
+    is_count a.kind (a.n + 1) (sym c.leaf_count_of.ensures ∙ c.if-not-leaf_count_of.false)
+
+pub returns-then-numbers-listing_numbers : goal.returns-then-numbers-listing_numbers
+returns-then-numbers-listing_numbers c =
+    let k = count (goal.at.returns-then-numbers-listing_numbers c).Else-not-leaf_count in
+    numbers_told _ _ _ _ _ _ _ k (new_count (goal.at.returns-then-numbers-listing_numbers c).Else-not-leaf_count_of) (λ h. c.if-numbers-listing_numbers.true (h ∙ sym (c.listing_numbers.ensures k)))
+
+numbers :
+    (c : Else-numbers-listing_numbers)
+    → let a = c.args in a.numbers ≡ 2 * (a.n - 2)
+numbers c = c.if-numbers-listing_numbers.false ∙ c.listing_numbers.ensures (count (goal.at.table_cells-requires c).Else-not-leaf_count)
+
+pub returns-then-cells-table_cells : goal.returns-then-cells-table_cells
+returns-then-cells-table_cells c =
+    let k = count (goal.at.returns-then-cells-table_cells c).Else-not-leaf_count in
+    cells_told _ _ _ _ _ _ _ k (new_count (goal.at.returns-then-cells-table_cells c).Else-not-leaf_count_of) (numbers (goal.at.returns-then-cells-table_cells c).Else-numbers-listing_numbers)
+    (λ h. c.if-cells-table_cells.true (h ∙ sym (c.table_cells.ensures k)))
+
+cells :
+    (c : Else-cells-table_cells)
+    → let a = c.args in a.cells ≡ a.n * a.n
+cells c =
+    c.if-cells-table_cells.false ∙ c.table_cells.ensures (count (goal.at.overflow_add-n-2 c).Else-not-leaf_count)
+
+-- the new table's leaf count is a tree's
+new-leaf-count :
+    (c : Else-cells-table_cells) → IsLeafCount (c.args.n + 1)
+new-leaf-count c =
+    let a = c.args in
+    leaf_count_of a.kind (a.n + 1) (new_count (goal.at.overflow_add-n-2 c).Else-not-leaf_count_of)
+
+pub returns-then-new_cells-table_cells : goal.returns-then-new_cells-table_cells
+returns-then-new_cells-table_cells c =
+    new_cells_told _ _ _ _ _ _ _ (count (goal.at.returns-then-new_cells-table_cells c).Else-not-leaf_count) (new_count (goal.at.returns-then-new_cells-table_cells c).Else-not-leaf_count_of)
+    (numbers (goal.at.returns-then-new_cells-table_cells c).Else-numbers-listing_numbers) (cells (goal.at.returns-then-new_cells-table_cells c).Else-cells-table_cells) (λ h. c.if-new_cells-table_cells.true (h ∙ sym (c.table_cells-2.ensures (new-leaf-count (goal.at.returns-then-new_cells-table_cells c).Else-cells-table_cells))))
+
+new_cells :
+    (c : Else-new_cells-table_cells)
+    → let a = c.args in
+    a.new_cells ≡ (a.n + 1) * (a.n + 1)
+new_cells c = c.if-new_cells-table_cells.false ∙ c.table_cells-2.ensures (new-leaf-count (goal.at.X c).Else-cells-table_cells)
+
+pub returns-then-room-due : goal.returns-then-room-due
+returns-then-room-due c =
+    room_told _ _ _ _ _ _ _ (count (goal.at.returns-then-room-due c).Else-not-leaf_count) (new_count (goal.at.returns-then-room-due c).Else-not-leaf_count_of) (numbers (goal.at.returns-then-room-due c).Else-numbers-listing_numbers)
+    (cells (goal.at.returns-then-room-due c).Else-cells-table_cells) (new_cells (goal.at.returns-then-room-due c).Else-new_cells-table_cells) c.if-room-due.true
+
+pub returns : goal.returns
+returns c =
+    sizes_told _ _ _ _ _ _ _ (count (goal.at.returns c).Else-not-leaf_count) (new_count (goal.at.returns c).Else-not-leaf_count_of) (numbers (goal.at.returns c).Else-numbers-listing_numbers)
+    (cells (goal.at.returns c).Else-cells-table_cells) (new_cells (goal.at.returns c).Else-new_cells-table_cells) (omega (arith, c.if-room-due.false))
+
+pub overflow_add-n : goal.overflow_add-n
+overflow_add-n c = omega (arith, count c)
+
+pub table_cells-requires : goal.table_cells-requires
+table_cells-requires c = search rules
+
+pub overflow_add-n-2 : goal.overflow_add-n-2
+overflow_add-n-2 c = omega (arith, count (goal.at.overflow_add-n-2 c).Else-not-leaf_count)

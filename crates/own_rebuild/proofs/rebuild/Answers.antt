@@ -1,0 +1,40 @@
+-- `own_rebuild::rebuild` meets its contract: what `judge` accepts is a table, and `rebuild_checked` rebuilds it.
+use mathlib.Core.Path.{◌≡◌}
+use mathlib.Core.Option.{none}
+use Prim.Native.Nat.{◌-◌, ◌*◌}
+use lib.ListN.{length}
+use Rattle.refusals.specs.Refusals.{outcome}
+use Rattle.refusals.proofs.Answers.{call_passed, unless_told, unless_none}
+use Rattle.table_checks.specs.Operations.{table_refusal}
+use Rattle.table_checks.proofs.TableRefusal.{accepted_table}
+use Rattle.rebuild_answers.specs.Operations.{rebuild_answer}
+use Rattle.rebuild_answers.proofs.Promises.{rebuild_gives}
+use Rattle.eligible_pairs.proofs.Lent.{no_bytes}
+use Rattle.own_rebuild.proofs.rebuild.Goals.{In-Done}
+use Rattle.own_rebuild.proofs.rebuild.Goals as goal
+
+pub returns : goal.returns
+unfolding rebuild_answer
+returns c =
+    let judged = c.judge_for_rows-judged.ensures in
+    rebuild_gives _ _ _ _ outcome (unless_told _ _ _ _ _ judged c.enum-told2.given.1)
+
+-- nothing was refused
+passed :
+    (c : In-Done)
+    → let a = c.args in
+    table_refusal a.kind a.n a.table.now (2 * (a.n - 2)) (length a.out.now) ≡ none
+passed c = call_passed _ c.judge_for_rows-judged.ensures c.in-Done.is
+
+pub rebuild_checked-requires : goal.rebuild_checked-requires
+rebuild_checked-requires c =
+    let a = accepted_table _ _ _ _ _ (passed (goal.at.rebuild_checked-requires c).In-Done) in
+    let meant = no_bytes c.args.n c.args.table.now in
+    (a.count, rw meant a.is_table, a.room_enough)
+
+pub returns : goal.returns
+unfolding rebuild_answer
+returns c =
+    let a = c.args in
+    let answered = rw (no_bytes a.n a.table.now) at c.rebuild_checked.ensures in
+    rebuild_gives _ _ _ _ outcome (unless_none _ _ _ _ _ (passed (goal.at.returns c).In-Done) answered)

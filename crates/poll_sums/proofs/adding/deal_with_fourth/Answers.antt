@@ -1,0 +1,35 @@
+-- `poll_sums::adding::deal_with_fourth` meets its contract: the places are those of the cells.
+use Prim.Native.Nat.{◌+◌, ◌<◌}
+use native.Mathlib.Omega.{arith}
+use Rattle.limits.specs.Limits.{most_poll_cells}
+use Rattle.poll_sums.proofs.Sums.{row_place}
+use Rattle.poll_sums.proofs.adding.deal_with_fourth.Goals.{Start}
+use Rattle.poll_sums.proofs.adding.deal_with_fourth.Goals as goal
+
+-- the three places stand among the sums
+places :
+    (c : Start)
+    → let due = c.args.due in
+    (due.third + due.quartet.d < most_poll_cells) × (due.second + due.quartet.d < most_poll_cells)
+    × (due.first + due.quartet.d < most_poll_cells)
+places c =
+    let n = c.args.n in
+    let q = c.args.due.quartet in
+    let p = c.requires in
+    let ab = p.0.ab in
+    let bc = p.0.bc in
+    let cd = p.0.cd in
+    let dn = p.0.dn in (
+      row_place n _ q.c q.d (omega arith) dn p.2 p.1.third,
+      row_place n _ q.b q.d (omega arith) dn p.2 p.1.second,
+      row_place n _ q.a q.d (omega arith) dn p.2 p.1.first,
+    )
+
+pub overflow_add-x : goal.overflow_add-x
+overflow_add-x c = omega (arith, (places (goal.at.overflow_add-x c).Start).0)
+
+pub overflow_add-y : goal.overflow_add-y
+overflow_add-y c = omega (arith, (places (goal.at.overflow_add-y c).Start).1)
+
+pub overflow_add-z : goal.overflow_add-z
+overflow_add-z c = omega (arith, (places (goal.at.overflow_add-z c).Start).2)

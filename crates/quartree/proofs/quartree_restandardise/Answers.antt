@@ -1,0 +1,8 @@
+-- `quartree::quartree_restandardise` meets its contract: reply and buffer are those of the operation that it calls.
+use Rattle.record_replies.proofs.Replies.{record_replied}
+use Rattle.quartree.proofs.quartree_restandardise.Goals as goal
+
+pub returns : goal.returns
+returns c =
+    let done = rw c.origin_of.ensures at c.restandardise.ensures in
+    (record_replied _ c.record_reply.ensures done.0, done.1)

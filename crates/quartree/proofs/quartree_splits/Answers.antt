@@ -1,0 +1,8 @@
+-- `quartree::quartree_splits` meets its contract: reply and buffer are those of the operation that it calls.
+use Rattle.replies.proofs.Replies.{replied}
+use Rattle.quartree.proofs.quartree_splits.Goals as goal
+
+pub returns : goal.returns
+returns c =
+    let done = c.splits.ensures in
+    (replied _ c.reply_of.ensures done.0, done.1)

@@ -1,0 +1,8 @@
+-- `quartree::quartree_standardise` meets its contract: reply and buffer are those of the operation that it calls.
+use Rattle.replies.proofs.Replies.{replied}
+use Rattle.quartree.proofs.quartree_standardise.Goals as goal
+
+pub returns : goal.returns
+returns c =
+    let done = c.standardise.ensures in
+    (replied _ c.reply_of.ensures done.0, done.1)

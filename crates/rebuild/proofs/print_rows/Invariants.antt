@@ -1,0 +1,9 @@
+-- `rebuild::print_rows` meets its contract: each row printed is inside the listing.
+use Prim.Native.Nat.{◌-◌, ◌≤◌}
+use Rattle.rebuild.proofs.print_rows.Given as goal
+
+abbrev pub invariant-loop-k : goal.invariant-loop-k
+invariant-loop-k l = k ≤ l.n
+
+abbrev pub decreases-loop-k : goal.decreases-loop-k
+decreases-loop-k l = l.n - k

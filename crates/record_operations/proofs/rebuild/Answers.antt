@@ -1,0 +1,15 @@
+-- `record_operations::rebuild` meets its contract: our own rebuild decides and writes, and what it accepts is
+-- marked rebuilt.
+use Rattle.tree_records.specs.declared.Origin.TheVariants.{Rebuilt}
+use Rattle.tree_records.specs.Records.{marked, tree_outcome}
+use Rattle.tree_records.proofs.Records.{mark_told}
+use Rattle.rebuild_answers.proofs.Promises.{rebuild_gives}
+use Rattle.record_operations.specs.Operations.{rebuild_record}
+use Rattle.record_operations.proofs.rebuild.Goals as goal
+
+pub returns : goal.returns
+unfolding rebuild_record
+returns c =
+    let done = c.rebuild.ensures in
+    rebuild_gives _ _ _ _ (λ a. tree_outcome (marked _ Rebuilt a))
+    (mark_told _ _ _ c.mark.ensures done.0, done.1.0)

@@ -1,0 +1,53 @@
+-- `spanned_rows::join_rows` meets its contract: the rows before node c are done.
+use Prim.Native.Nat.{◌-◌}
+use native.Mathlib.Omega.{arith}
+use Rattle.listings.proofs.Rows.{RowOf, row_read}
+use Rattle.spanned_rows.proofs.Arrays.{joined_start, row_fits, joined_more, last_fits, joined_end}
+use Rattle.spanned_rows.proofs.join_rows.Goals.{After-row_at-row}
+use Rattle.spanned_rows.proofs.join_rows.Goals as goal
+
+pub loop-c-init : goal.loop-c-init
+loop-c-init c = joined_start c.requires
+
+-- the row of this turn
+row_of :
+    (c : After-row_at-row)
+    → (let a = c.args in
+    let at = c.loop-c.c in
+    RowOf a.n a.listing.now (at - a.n) c.row_at-row.result)
+row_of c =
+    let J = c.loop-c.invariant in
+    row_read _ _ J.start.count J.start.keeps _ (omega (arith, J.from, c.loop-c-test.true))
+    c.row_at-row.ensures
+
+pub offset_bounds-numbers-a : goal.offset_bounds-numbers-a
+offset_bounds-numbers-a c = omega (arith, (row_of c).first_before, c.loop-c.invariant.start.count)
+
+pub bounds-numbers-a : goal.bounds-numbers-a
+bounds-numbers-a c = omega (arith, (row_of (goal.at.bounds-numbers-a c).After-row_at-row).first_before, c.loop-c.invariant.start.count)
+
+pub offset_bounds-numbers-b : goal.offset_bounds-numbers-b
+offset_bounds-numbers-b c =
+    omega (arith, (row_of (goal.at.offset_bounds-numbers-b c).After-row_at-row).second_before, c.loop-c.invariant.start.count)
+
+pub bounds-numbers-b : goal.bounds-numbers-b
+bounds-numbers-b c =
+    omega (arith, (row_of (goal.at.bounds-numbers-b c).After-row_at-row).second_before, c.loop-c.invariant.start.count)
+
+pub join_kept-joined-requires : goal.join_kept-joined-requires
+join_kept-joined-requires c =
+    rw ((row_of (goal.at.join_kept-joined-requires c).After-row_at-row).first_is, (row_of (goal.at.join_kept-joined-requires c).After-row_at-row).second_is)
+    (row_fits c.loop-c.invariant c.loop-c-test.true)
+
+pub loop-c-preserved : goal.loop-c-preserved
+loop-c-preserved c =
+    joined_more c.loop-c.invariant c.loop-c-test.true
+    (rw ((row_of (goal.at.loop-c-preserved c).After-row_at-row).first_is, (row_of (goal.at.loop-c-preserved c).After-row_at-row).second_is) (goal.at.loop-c-preserved c).After-way_told-1 c.join_kept-joined.ensures)
+
+pub join_kept-requires : goal.join_kept-requires
+join_kept-requires c =
+    last_fits c.loop-c.invariant c.loop-c-test.false
+
+pub returns : goal.returns
+returns c =
+    joined_end c.loop-c.invariant c.loop-c-test.false c.join_kept.ensures

@@ -1,0 +1,62 @@
+-- `tree_changes::apply` meets its contract: nothing is written before all is judged; then the listing, then the table
+-- of the tree that it stands for.
+use mathlib.Core.Path.{refl}
+use lib.ListN.{length}
+use Rattle.refusals.proofs.Answers.{call_passed}
+use Rattle.trees.specs.Trees.{IsTree}
+use Rattle.trees.specs.Listings.{tree_of}
+use Rattle.trees.proofs.Rules.{listing_tree}
+use Rattle.trees.proofs.FrontListings.{front_fits, front_keeps}
+use Rattle.change_answers.specs.Operations.{count_after, changed, change_answer, change_table}
+use Rattle.change_answers.proofs.Changes.{changed_tree}
+use Rattle.change_answers.proofs.Accepted.{Accepted, accepted_change}
+use Rattle.tree_changes.proofs.Results.{listing_put, table_put, both_refused, both_done}
+use Rattle.tree_changes.proofs.apply.Goals.{In-Done}
+use Rattle.tree_changes.proofs.apply.Goals as goal
+
+pub returns-in_default : goal.returns-in_default
+unfolding change_answer change_table
+returns-in_default c = both_refused _ c.judge-judged.ensures _ _ _ _ c.in_default.is
+
+-- nothing is refused, so the changed tree is one
+module _ (c : In-Done) where
+  right :
+      let a = c.args in
+      Accepted a.n a.listing.now a.table.now a.change (length a.out.now) (length a.cells.now)
+  right = accepted_change _ _ _ _ _ _ (call_passed _ c.judge-judged.ensures c.in-Done.is)
+
+  is_tree :
+      let a = c.args in
+      IsTree (count_after a.n a.change) (changed a.n (tree_of a.n a.listing.now) a.change)
+  is_tree =
+      let a = c.args in
+      changed_tree a.n right.count (tree_of a.n a.listing.now)
+      (listing_tree a.n right.count a.listing.now right.keeps) a.change right.there
+
+pub write_rows-requires : goal.write_rows-requires
+write_rows-requires c =
+    let w = right (goal.at.write_rows-requires c).In-Done in
+    (w.count, w.new_count, w.keeps, w.there, w.enough)
+
+pub write_table-requires : goal.write_table-requires
+write_table-requires c =
+    let w = right (goal.at.write_table-requires c).In-Done in
+    let put = c.write-rows.ensures in
+    let k = w.new_count in
+    rw c.count_after.ensures
+    (k, front_fits _ k _ (is_tree (goal.at.write_table-requires c).In-Done) _ _ put, front_keeps _ k _ (is_tree (goal.at.write_table-requires c).In-Done) _ _ put, w.enough_cells)
+
+pub returns : goal.returns
+unfolding change_answer change_table
+returns c =
+    let w = right (goal.at.returns c).In-Done in
+    let k = w.new_count in
+    let put = c.write-rows.ensures in
+    let told = c.judge.ensures in
+    let table = rw c.count_after.ensures at
+    c.write_table.ensures in
+    both_done _ told _ _ _ _ c.enum_told.given.1 (listing_put _ k _ (is_tree (goal.at.returns c).In-Done) _ _ put _ refl)
+    (table_put _ k _ (is_tree (goal.at.returns c).In-Done) _ _ put _ _ table)
+
+pub count_after-requires : goal.count_after-requires
+count_after-requires c = (right (goal.at.count_after-requires c).In-Done).count
