@@ -42,7 +42,8 @@ join_kept-joined-requires c =
 pub loop-c-preserved : goal.loop-c-preserved
 loop-c-preserved c =
     joined_more c.loop-c.invariant c.loop-c-test.true
-    (rw ((row_of (goal.at.loop-c-preserved c).After-row_at-row).first_is, (row_of (goal.at.loop-c-preserved c).After-row_at-row).second_is) (goal.at.loop-c-preserved c).After-way_told-1 c.join_kept-joined.ensures)
+    (rw ((row_of (goal.at.loop-c-preserved c).After-row_at-row).first_is,
+      (row_of (goal.at.loop-c-preserved c).After-row_at-row).second_is) c.join_kept-joined.ensures)
 
 pub join_kept-requires : goal.join_kept-requires
 join_kept-requires c =
