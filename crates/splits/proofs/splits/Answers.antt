@@ -19,7 +19,11 @@ use Rattle.splits.proofs.splits.Goals as goal
 
 pub returns-in_default : goal.returns-in_default
 unfolding splits_answer
-returns-in_default c = call_refused _ c.judge_for_splits-judged.ensures _ _ c.in_default.is
+returns-in_default c =
+    let a = c.args in
+    let made = with_sets a.n (standard a.n (tree_of a.n a.listing.now)) [] in
+    let both = call_refused _ c.judge_for_splits-judged.ensures LIST a.out.now c.in_default.is in
+    record { answer = both.0; buffer = both.1 }
 
 -- the listing is accepted
 fine :
