@@ -31,7 +31,7 @@ fn read_full<R: Read>(input: &mut R, buffer: &mut [u8]) -> io::Result<usize>
     while got < buffer.len() {
         let many = input.read(&mut buffer[got..])?;
         if many == 0 {
-            break;
+            return Ok(got);
         }
         got += many;
     }
