@@ -1,10 +1,15 @@
 // Reads a strain sheet from standard input and prints its tree: the leaf count, one line a row (node, first child,
 // second child), and `end`. Where no tree has the sheet's table, it prints a guess: `guess` before the leaf count, and
 // the total gap on its own line before `end`. A sheet that is refused gets `refused` and the number.
-ghost use Rattle.std.specs.Prelude.{◌≤◌};
+#![tactic(auto)]
+
+ghost use Rattle.std.specs.Prelude.{◌≡◌, ◌<◌, ◌≤◌, IfOk, length, take};
+ghost use Rattle.std.specs.Io.KnownBytes.{Consumes, IsAtEnd};
 ghost use Rattle.limits.specs.Limits.{most_leaves};
 
 use guesses::GuessOutcome;
+use std::io;
+use std::io::Read;
 use tree_records::Origin;
 
 // One byte more than the longest sheet has, so that a longer input is refused and not cut.
@@ -13,62 +18,80 @@ const INPUT: usize = sheets::LONGEST_SHEET + 1;
 // The numbers of the longest listing.
 const LISTING: usize = limits::MOST_NUMBERS;
 
-fn print_number(number: usize) {
-    io::print_decimal(1, number as u64);
+// Fills the buffer from its start, over as many reads as that takes, until it is full or the input ends; how many bytes
+// it holds then.
+fn read_full<R: Read>(input: &mut R, buffer: &mut [u8]) -> io::Result<usize>
+    ensures bound { IfOk result (λ got. got ≤ length buffer.new) }
+    ensures bytes { IfOk result (λ got. Consumes (R.remaining input.old) (R.remaining input.new)
+        (take got buffer.new)) }
+    ensures end { IfOk result (λ got. got < length buffer.new
+        → IsAtEnd (R.remaining input.new)) }
+{
+    let mut got: usize = 0;
+    while got < buffer.len() {
+        let many = input.read(&mut buffer[got..])?;
+        if many == 0 {
+            return Ok(got);
+        }
+        got += many;
+    }
+    Ok(got)
 }
 
-fn print_child(child: u16) {
-    io::write_all(1, b" ");
-    io::print_decimal(1, child as u64);
+fn print_number(rt: &impl Print, number: usize) -> io::Result<()> {
+    print!(rt; "{number}")
+}
+
+fn print_child(rt: &impl Print, child: u16) -> io::Result<()> {
+    print!(rt; " {child}")
 }
 
 // The rows of a listing of n leaves.
-fn print_rows(n: usize, listing: &[u16; LISTING])
+fn print_rows(rt: &impl Print, n: usize, listing: &[u16; LISTING]) -> io::Result<()>
     requires { n ≤ most_leaves }
 {
     let mut k: usize = 0;
     while k + 2 < n {
-        print_number(n + k);
-        print_child(listing[2 * k]);
-        print_child(listing[2 * k + 1]);
-        io::write_all(1, b"\n");
+        print_number(rt, n + k)?;
+        print_child(rt, listing[2 * k])?;
+        print_child(rt, listing[2 * k + 1])?;
+        println!(rt)?;
         k += 1;
     }
+    Ok(())
 }
 
 // The leaf count, after a word for where the tree came from.
-fn print_count(origin: Origin, n: usize) {
+fn print_count(rt: &impl Print, origin: Origin, n: usize) -> io::Result<()> {
     if let Origin::Guessed = origin {
-        io::write_all(1, b"guess ");
+        print!(rt; "guess ")?;
     } else {
-        io::write_all(1, b"leaves ");
+        print!(rt; "leaves ")?;
     }
-    print_number(n);
-    io::write_all(1, b"\n");
+    print_number(rt, n)?;
+    println!(rt)
 }
 
 // The total gap of a guess.
-fn print_total(origin: Origin, total: u64) {
+fn print_total(rt: &impl Print, origin: Origin, total: u64) -> io::Result<()> {
     if let Origin::Guessed = origin {
-        io::print_decimal(1, total);
-        io::write_all(1, b"\n");
+        println!(rt; "{total}")?;
     }
+    Ok(())
 }
 
-fn main() {
+fn main(rt: HostRuntime) -> io::Result<()> {
     let mut input = [0u8; INPUT];
-    let got = io::read_full(0, &mut input);
+    let got = read_full(&mut rt.stdin(), &mut input)?;
     let mut listing = [0u16; LISTING];
     let answer = guesses::guess_sheet(&input[..got], &mut listing);
     let GuessOutcome::Tree(origin, total) = answer else {
-        io::write_all(1, b"refused ");
-        io::print_decimal(1, guess_replies::guess_number(answer) as u64);
-        io::write_all(1, b"\n");
-        return;
+        let number = guess_replies::guess_number(answer);
+        return println!(rt; "refused {number}");
     };
     let n = sheets::leaf_count_of(&input[..got]);
-    print_count(origin, n);
-    print_rows(n, &listing);
-    print_total(origin, total);
-    io::write_all(1, b"end\n");
+    print_count(&rt, origin, n)?;
+    print_rows(&rt, n, &listing)?;
+    print_total(&rt, origin, total)?;
+    println!(rt; "end")
 }

@@ -3,7 +3,7 @@ use Prim.Native.Nat.{◌*◌, ◌-◌, ◌≤◌}
 use Rattle.poll_cases.proofs.say_cells.Given as goal
 
 abbrev pub invariant-loop-k : goal.invariant-loop-k
-invariant-loop-k l = (k ≤ 25) × (l.k ≤ k * 4294967295)
+invariant-loop-k g l = (l.k ≤ 25) × (l.total ≤ l.k * 4294967295)
 
 abbrev pub decreases-loop-k : goal.decreases-loop-k
-decreases-loop-k l = 25 - k
+decreases-loop-k g l = 25 - l.k
