@@ -1,12 +1,12 @@
 -- `eligible_pairs::block_fits` meets its contract. The loop's invariant: the rows passed have no wrong cell.
 use mathlib.Core.Path.{◌∙◌, sym}
-use mathlib.Core.Logic.{inl, inr}
 use Prim.Native.Nat.{◌-◌}
 use native.Mathlib.Omega.{arith}
 use borrow.Author.Count.{below_more}
 use Rattle.pair_counts.proofs.Pairs.{P_most}
 use Rattle.eligible_pairs.proofs.Mismatches.{row_right, right_row, says_no, says_yes}
 use Rattle.eligible_pairs.proofs.block_fits.Goals as goal
+use Rattle.eligible_pairs.proofs.block_fits.Goals.{then-label-x+else-row_wrong-ne0, else-label-x}
 
 pub loop-x-init : goal.loop-x-init
 loop-x-init c = (omega arith, λ i l. absurd (omega arith))
@@ -30,8 +30,9 @@ pub loop-x-preserved : goal.loop-x-preserved
 loop-x-preserved c = (
   omega arith,
   below_more _ _ c.loop-x.invariant.1 (elim c.if-label-x.branch [
-    | inl w ↦ (λ p. row_right _ _ _ _ _ _ _ (sym w.2.ensures ∙ w.3.left))
-    | inr w ↦ (λ p. absurd (w.left p))
+    | then-label-x+else-row_wrong-ne0 w ↦
+        (λ p. row_right _ _ _ _ _ _ _ (sym w.row_wrong.ensures ∙ w.if-row_wrong-ne0.false))
+    | else-label-x w ↦ (λ p. absurd (w.if-label-x.false p))
   ]),
 )
 

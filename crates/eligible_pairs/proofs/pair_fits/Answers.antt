@@ -1,6 +1,7 @@
 -- `eligible_pairs::pair_fits` meets its contract: one cell that is wrong is enough to refuse, and the block of
 -- either side's rows says the same, since the table has equal halves.
-use mathlib.Core.Path.{◌∙◌}
+use mathlib.Core.Path.{ap, ◌∙◌}
+use mathlib.Core.Bool.{not}
 use native.Mathlib.Omega.{arith}
 use Rattle.pair_counts.proofs.Pairs.{P_most}
 use Rattle.trees.specs.Tables.{cell}
@@ -33,7 +34,7 @@ pub returns-then-not-as_expected : goal.returns-then-not-as_expected
 unfolding cell
 returns-then-not-as_expected c =
     let w = c.requires in
-    let off = unexpected _ _ _ c.as_expected.ensures c.if-not-as_expected.true in
+    let off = unexpected _ _ _ c.as_expected.ensures (ap not c.if-not-as_expected.true) in
     says_no (first_off w (λ h. off (c.cell_at-cell.ensures ∙ h)))
 
 pub block_fits-requires : goal.block_fits-requires

@@ -26,28 +26,25 @@ accepted_steps-k-requires c = (
   record { came = halt; holds = holds_start c.args.n c.requires.0.1 c.own_numbers.ensures },
 )
 
--- the place before the proposals
-abbrev counted : tie.After-accepted-steps → tie.After-scaled-counts
-counted c = c.before.before.before.before.before.before.before.before
-
-pub returns : goal.returns
+pub returns-then-k-n : goal.returns-then-k-n
 unfolding outcome written
-returns c =
+returns-then-k-n c =
     let at-step = guided_at c.accepted_steps-k.ensures c.if-k-n.true in
-    let e = rw (given (counted (goal.at.returns c).After-out-1)).0 at at-step in
-    (rw e, rw e)
+    let e = rw (given (goal.at.returns-then-k-n c).After-scaled_counts-p).0 at at-step in
+    record { answer = rw e; buffer = rw e }
 
 pub rebuild_checked-requires : goal.rebuild_checked-requires
 rebuild_checked-requires c =
-    let s = (counted (goal.at.rebuild_checked-requires c).Else-k-n).before.before.before.before in
-    (s.pre.0, rw (no_bytes s.args.n s.args.table.now) s.pre.1, s.pre.2)
+    let p = c.requires in (p.0, rw (no_bytes c.args.n c.args.table.now) p.1, p.2)
 
 pub returns : goal.returns
 returns c =
-    let g = given (counted (goal.at.returns c).Else-k-n) in
-    let s = (counted (goal.at.returns c).Else-k-n).before.before.before.before in
-    let whole =
-    guided_whole c.accepted_steps-k.ensures s.pre.0 g.1.scaled.0 s.pre.1 s.pre.3
-    c.if-k-n.false in
+    let p = c.requires in
+    let g = given (goal.at.returns c).After-scaled_counts-p in
+    let whole = guided_whole c.accepted_steps-k.ensures p.0 g.1.scaled.0 p.1 p.3 c.if-k-n.false in
     let e = rw g.0 at whole in
-    rw e (rw (no_bytes s.args.n s.args.table.now) at c.rebuild_checked.ensures)
+    let r = c.rebuild_checked.ensures in
+    record {
+      answer = rw e (rw (no_bytes c.args.n c.args.table.now) at r.answer);
+      buffer = rw e (rw (no_bytes c.args.n c.args.table.now) at r.buffer);
+    }

@@ -12,49 +12,38 @@ use Rattle.guided_rebuild.proofs.Proposals.{merges_up, merges_down, labels_fit, 
 use Rattle.guided_rebuild.proofs.try_merge.Goals.{After-pair_fits}
 use Rattle.guided_rebuild.proofs.try_merge.Goals as goal
 
-pub returns : goal.returns
-returns c = proposal_refused (λ S s. one_label c.requires s c.if-a-b.true)
+pub returns-then-a-b : goal.returns-then-a-b
+returns-then-a-b c = proposal_refused (λ S s. one_label c.requires s c.if-a-b.true)
 
 pub pair_fits-requires : goal.pair_fits-requires
 pair_fits-requires c =
-    let start = c.before.before in
-    rw (no_bytes start.args.n start.args.table.now)
-    (two_labels start.requires start.requires.standing.stands c.if1.false)
+    rw (no_bytes c.args.n c.args.table.now) (two_labels c.requires c.requires.standing.stands c.if-a-b.false)
 
 -- the test of the two subtrees, of the table as cells
 meets-told :
     (c : After-pair_fits)
-    → (let a = c.before.before.args in
-    (c.pair_fits.result ≡ true)
-    ↔ SubtreesFit a.n a.table.now a.label.now a.m.now a.sizes.now a.p.now a.a a.b)
-meets-told c =
-    let a = c.before.before.args in
-    rw (no_bytes a.n a.table.now) at c.pair_fits.ensures
+    → (let a = c.args in
+    (c.pair_fits.result ≡ true) ↔ SubtreesFit a.n a.table.now a.label.now a.m.now a.sizes.now a.p.now a.a a.b)
+meets-told c = rw (no_bytes c.args.n c.args.table.now) at c.pair_fits.ensures
 
 pub returns-then-not-pair_fits : goal.returns-then-not-pair_fits
 returns-then-not-pair_fits c =
     proposal_refused (λ S s e.
-    let meet = labels_fit c.before.before.requires s c.if1.false e in
-    never ((meets-told (goal.at.returns-then-not-pair_fits c).After-pair_fits).1 meet) (c.if-not-pair_fits.true))
+    let meet = labels_fit c.requires s c.if-a-b.false e in
+    never ((meets-told (goal.at.returns-then-not-pair_fits c).After-pair_fits).1 meet) c.if-not-pair_fits.true)
 
 pub merge-requires : goal.merge-requires
-merge-requires c =
-    let start = c.before.before in
-    merges_up start.requires start.requires.standing.stands c.if1.false
+merge-requires c = merges_up c.requires c.requires.standing.stands c.if-a-b.false
 
 pub returns-then-a-b-2 : goal.returns-then-a-b-2
 returns-then-a-b-2 c =
-    let meets = (meets-told (goal.at.returns-then-a-b-2 c).After-pair_fits).0 (c.if-not-pair_fits.false) in
-    proposal_accepted
-    (λ S s. merged_up c.before.before.requires s c.if1.false meets c.if-a-b-2.true c.merge.ensures)
+    let meets = (meets-told (goal.at.returns-then-a-b-2 c).After-pair_fits).0 c.if-not-pair_fits.false in
+    proposal_accepted (λ S s. merged_up c.requires s c.if-a-b.false meets c.if-a-b-2.true c.merge.ensures)
 
 pub merge-requires-2 : goal.merge-requires-2
-merge-requires-2 c =
-    let start = c.before.before in
-    merges_down start.requires start.requires.standing.stands c.if1.false
+merge-requires-2 c = merges_down c.requires c.requires.standing.stands c.if-a-b.false
 
 pub returns : goal.returns
 returns c =
-    let meets = (meets-told (goal.at.returns c).After-pair_fits).0 (c.if-not-pair_fits.false) in
-    proposal_accepted
-    (λ S s. merged_down c.before.before.requires s c.if1.false meets (omega arith) c.merge-2.ensures)
+    let meets = (meets-told (goal.at.returns c).After-pair_fits).0 c.if-not-pair_fits.false in
+    proposal_accepted (λ S s. merged_down c.requires s c.if-a-b.false meets (omega arith) c.merge-2.ensures)

@@ -8,14 +8,12 @@ use Rattle.leaf_merges.proofs.merge_leaf.Goals as goal
 
 pub partner-k-requires : goal.partner-k-requires
 partner-k-requires c =
-    let s = c.before.before.before in
-    let b = begin s.requires.1 s.requires.3 in
-    (leaf_merge_sizes_fit s.requires.0 b s.requires.2, own_label s.requires.0 b s.requires.2, s.requires.2)
+    let b = begin c.requires.1 c.requires.3 in
+    (leaf_merge_sizes_fit c.requires.0 b c.requires.2, own_label c.requires.0 b c.requires.2, c.requires.2)
 
 pub loop-k-init : goal.loop-k-init
 loop-k-init c =
-    let s = c.before.before.before in
-    (s.requires.0, s.requires.2, begin s.requires.1 s.requires.3, c.partner-k.ensures)
+    (c.requires.0, c.requires.2, begin c.requires.1 c.requires.3, c.partner-k.ensures)
 
 pub merge-requires : goal.merge-requires
 merge-requires c =
@@ -41,7 +39,7 @@ overflow_add-r c =
 
 pub partner-k-requires-in-loop-k : goal.partner-k-requires-in-loop-k
 partner-k-requires-in-loop-k c =
-    let l = c.loop in
+    let l = c.loop-k in
     let g = l.invariant.0 in
     let hit = l.invariant.3.hit (omega arith) in
     let b =
@@ -52,14 +50,14 @@ partner-k-requires-in-loop-k c =
 
 pub loop-k-smaller : goal.loop-k-smaller
 loop-k-smaller c =
-    let l = c.loop in
+    let l = c.loop-k in
     let room = leaf_merge_room l.invariant.0 l.invariant.2 l.invariant.1 l.k (omega arith)
     (l.invariant.3.hit (omega arith)) in
     omega (arith, room)
 
 pub loop-k-preserved : goal.loop-k-preserved
 loop-k-preserved c =
-    let l = c.loop in
+    let l = c.loop-k in
     let g = l.invariant.0 in
     let hit = l.invariant.3.hit (omega arith) in
     let b =

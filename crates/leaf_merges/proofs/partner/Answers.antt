@@ -1,11 +1,11 @@
 -- `leaf_merges::partner` meets its contract. The loop's invariant: no label passed may be merged with `a`.
 use mathlib.Core.Path.{sym, ◌∙◌}
-use mathlib.Core.Logic.{inl, inr}
 use Prim.Native.Nat.{◌-◌}
 use native.Mathlib.Omega.{arith}
 use borrow.Author.Count.{below_more}
 use Rattle.base.proofs.Bools.{never}
 use Rattle.leaf_merges.proofs.partner.Goals as goal
+use Rattle.leaf_merges.proofs.partner.Goals.{then-index_of_u32-b+else-pair_fits, else-index_of_u32-b}
 
 pub loop-b-init : goal.loop-b-init
 loop-b-init c = (omega arith, omega arith, λ i l al. absurd (omega arith))
@@ -25,8 +25,8 @@ loop-b-preserved c =
       omega arith,
       omega arith,
       below_more _ _ seen (λ l q. elim c.if-index_of_u32-b.branch [
-        | inl w ↦ never (w.1.ensures.1 q.1) w.2.left
-        | inr w ↦ w.left (c.index_of_u32.ensures ∙ q.0)
+        | then-index_of_u32-b+else-pair_fits w ↦ never (w.pair_fits.ensures.1 q.1) w.if-pair_fits.false
+        | else-index_of_u32-b w ↦ w.if-index_of_u32-b.false (c.index_of_u32.ensures ∙ q.0)
       ]),
     )
 
