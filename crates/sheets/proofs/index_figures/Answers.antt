@@ -34,14 +34,14 @@ unfolding outcome_of
 returns-then-not-right_ends c =
     let wrong = sym c.right_ends.ensures ∙ c.if-not-right_ends.true in
     let refused = ends_refused _ _ _ _ _ wrong in
-    (ap outcome_of (sym refused), λ e. absurd (none_not_some _ _ refused e))
+    record { answer = ap outcome_of (sym refused); index = λ e. absurd (none_not_some _ _ refused e) }
 
 pub returns-then-not-leaf_count : goal.returns-then-not-leaf_count
 unfolding outcome_of
 returns-then-not-leaf_count c =
     let off = sym c.leaf_count.ensures ∙ c.if-not-leaf_count.true in
     let refused = count_refused _ _ _ _ _ (ends (goal.at.returns-then-not-leaf_count c).Else-not-right_ends) off in
-    (ap outcome_of (sym refused), λ e. absurd (none_not_some _ _ refused e))
+    record { answer = ap outcome_of (sym refused); index = λ e. absurd (none_not_some _ _ refused e) }
 
 pub right_sum-requires : goal.right_sum-requires
 right_sum-requires c = is_leaf_count _ (count c)
@@ -50,14 +50,17 @@ pub returns-then-not-right_sum : goal.returns-then-not-right_sum
 unfolding outcome_of
 returns-then-not-right_sum c =
     let wrong = sym c.right_sum.ensures ∙ c.if-not-right_sum.true in
-    let refused = sum_refused _ _ _ _ _ (ends (goal.at.returns-then-not-right_sum c).Else-not-right_ends) (count (goal.at.returns-then-not-right_sum c).Else-not-leaf_count) wrong in
-    (ap outcome_of (sym refused), λ e. absurd (none_not_some _ _ refused e))
+    let here = goal.at.returns-then-not-right_sum c in
+    let refused = sum_refused _ _ _ _ _ (ends here.Else-not-right_ends) (count here.Else-not-leaf_count) wrong in
+    record { answer = ap outcome_of (sym refused); index = λ e. absurd (none_not_some _ _ refused e) }
 
 pub returns-then-room-due : goal.returns-then-room-due
 unfolding outcome_of
 returns-then-room-due c =
-    let refused = room_refused _ _ _ _ _ (ends (goal.at.returns-then-room-due c).Else-not-right_ends) (count (goal.at.returns-then-room-due c).Else-not-leaf_count) (sum (goal.at.returns-then-room-due c).Else-not-right_sum) c.if-room-due.true in
-    (ap outcome_of (sym refused), λ e. absurd (none_not_some _ _ refused e))
+    let here = goal.at.returns-then-room-due c in
+    let tests = room_refused _ _ _ _ _ (ends here.Else-not-right_ends) (count here.Else-not-leaf_count) in
+    let refused = tests (sum here.Else-not-right_sum) c.if-room-due.true in
+    record { answer = ap outcome_of (sym refused); index = λ e. absurd (none_not_some _ _ refused e) }
 
 pub judge_names-requires : goal.judge_names-requires
 judge_names-requires c =
@@ -70,5 +73,8 @@ judge_names-requires c =
 
 pub returns : goal.returns
 returns c =
-    let left = names_left _ _ _ _ _ (ends (goal.at.returns c).Else-not-right_ends) (count (goal.at.returns c).Else-not-leaf_count) (sum (goal.at.returns c).Else-not-right_sum) c.if-room-due.false in
-    (c.judge_names.ensures.0 ∙ ap outcome_of (sym left), λ e. c.judge_names.ensures.1 (sym left ∙ e))
+    let here = goal.at.returns c in
+    let tests = names_left _ _ _ _ _ (ends here.Else-not-right_ends) (count here.Else-not-leaf_count) in
+    let left = tests (sum here.Else-not-right_sum) c.if-room-due.false in
+    let judged = c.judge_names.ensures in
+    record { answer = judged.answer ∙ ap outcome_of (sym left); index = λ e. judged.index (sym left ∙ e) }

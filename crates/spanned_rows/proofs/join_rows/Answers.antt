@@ -24,25 +24,29 @@ pub offset_bounds-numbers-a : goal.offset_bounds-numbers-a
 offset_bounds-numbers-a c = omega (arith, (row_of c).first_before, c.loop-c.invariant.start.count)
 
 pub bounds-numbers-a : goal.bounds-numbers-a
-bounds-numbers-a c = omega (arith, (row_of (goal.at.bounds-numbers-a c).After-row_at-row).first_before, c.loop-c.invariant.start.count)
+bounds-numbers-a c =
+    let r = row_of (goal.at.bounds-numbers-a c).After-row_at-row in
+    omega (arith, r.first_before, c.loop-c.invariant.start.count)
 
 pub offset_bounds-numbers-b : goal.offset_bounds-numbers-b
 offset_bounds-numbers-b c =
-    omega (arith, (row_of (goal.at.offset_bounds-numbers-b c).After-row_at-row).second_before, c.loop-c.invariant.start.count)
+    let r = row_of (goal.at.offset_bounds-numbers-b c).After-row_at-row in
+    omega (arith, r.second_before, c.loop-c.invariant.start.count)
 
 pub bounds-numbers-b : goal.bounds-numbers-b
 bounds-numbers-b c =
-    omega (arith, (row_of (goal.at.bounds-numbers-b c).After-row_at-row).second_before, c.loop-c.invariant.start.count)
+    let r = row_of (goal.at.bounds-numbers-b c).After-row_at-row in
+    omega (arith, r.second_before, c.loop-c.invariant.start.count)
 
 pub join_kept-joined-requires : goal.join_kept-joined-requires
 join_kept-joined-requires c =
-    rw ((row_of (goal.at.join_kept-joined-requires c).After-row_at-row).first_is, (row_of (goal.at.join_kept-joined-requires c).After-row_at-row).second_is)
-    (row_fits c.loop-c.invariant c.loop-c-test.true)
+    let r = row_of (goal.at.join_kept-joined-requires c).After-row_at-row in
+    rw (r.first_is, r.second_is) (row_fits c.loop-c.invariant c.loop-c-test.true)
 
 pub loop-c-preserved : goal.loop-c-preserved
 loop-c-preserved c =
-    joined_more c.loop-c.invariant c.loop-c-test.true
-    (rw ((row_of (goal.at.loop-c-preserved c).After-row_at-row).first_is, (row_of (goal.at.loop-c-preserved c).After-row_at-row).second_is) (goal.at.loop-c-preserved c).After-way_told-1 c.join_kept-joined.ensures)
+    let r = row_of (goal.at.loop-c-preserved c).After-row_at-row in
+    joined_more c.loop-c.invariant c.loop-c-test.true (rw (r.first_is, r.second_is) at c.join_kept-joined.ensures)
 
 pub join_kept-requires : goal.join_kept-requires
 join_kept-requires c =

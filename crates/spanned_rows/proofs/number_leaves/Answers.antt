@@ -21,4 +21,6 @@ pub loop-k-preserved : goal.loop-k-preserved
 loop-k-preserved c = search numbering_more
 
 pub returns : goal.returns
-returns c = numbering_end c.loop-k-test.false c.loop-k.invariant
+returns c =
+    let end = numbering_end c.loop-k-test.false c.loop-k.invariant in
+    record { count = end.0; each = end.1 }

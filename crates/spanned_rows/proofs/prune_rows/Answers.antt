@@ -29,11 +29,13 @@ slice_bounds-rows-end c = omega (arith, fewer c, c.requires.1)
 
 pub slice_bounds-standard_rows-end : goal.slice_bounds-standard_rows-end
 slice_bounds-standard_rows-end c =
-    sym (length-take-le _ _ (omega (arith, c.span_rows-m.ensures.long, fewer (goal.at.slice_bounds-standard_rows-end c).After-span_rows-m, c.requires.1)))
+    let less = fewer (goal.at.slice_bounds-standard_rows-end c).After-span_rows-m in
+    sym (length-take-le _ _ (omega (arith, c.span_rows-m.ensures.long, less, c.requires.1)))
 
 pub standard_rows-requires : goal.standard_rows-requires
 standard_rows-requires c =
-    (rw (fewer (goal.at.standard_rows-requires c).After-span_rows-m) c.requires.1, c.span_rows-m.ensures.keeps, rw (fewer (goal.at.standard_rows-requires c).After-span_rows-m) c.requires.4)
+    let less = fewer (goal.at.standard_rows-requires c).After-span_rows-m in
+    (rw less c.requires.1, c.span_rows-m.ensures.keeps, rw less c.requires.4)
 
 pub returns : goal.returns
 returns c =

@@ -9,11 +9,11 @@ pub join_rows-joined-requires : goal.join_rows-joined-requires
 join_rows-joined-requires c =
     record {
       count = c.requires.0;
-      new_count = rw c.number_leaves-m.ensures.0 c.requires.2;
+      new_count = rw c.number_leaves-m.ensures.count c.requires.2;
       keeps = c.requires.1;
       stay = _;
-      leaves = c.number_leaves-m.ensures.1;
-      as_many = c.number_leaves-m.ensures.0;
+      leaves = c.number_leaves-m.ensures.each;
+      as_many = c.number_leaves-m.ensures.count;
       rows_long = c.requires.3;
       chain_long = length-replicate {A = ℕ} most_leaves 0;
     }
@@ -21,10 +21,10 @@ join_rows-joined-requires c =
 pub write_chain-requires : goal.write_chain-requires
 write_chain-requires c =
     let n = c.number_leaves-m.ensures in
-    span_fits _ c.requires.0 c.requires.1 (rw n.0 c.requires.2) n.0 (c.join_rows-joined.ensures _ n.1 n.0)
+    span_fits _ c.requires.0 c.requires.1 (rw n.count c.requires.2) n.count (c.join_rows-joined.ensures _ n.each n.count)
 
 pub returns : goal.returns
 returns c =
     let n = c.number_leaves-m.ensures in
-    span_end _ c.requires.0 c.requires.1 (rw n.0 c.requires.2) n.0 (c.join_rows-joined.ensures _ n.1 n.0)
+    span_end _ c.requires.0 c.requires.1 (rw n.count c.requires.2) n.count (c.join_rows-joined.ensures _ n.each n.count)
     c.write_chain.ensures

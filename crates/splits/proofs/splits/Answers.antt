@@ -8,6 +8,7 @@ use lib.Seq.{take_at}
 use Rattle.limits.specs.Limits.{set_bytes}
 use Rattle.refusals.proofs.Answers.{call_passed, call_refused, call_done}
 use Rattle.trees.specs.Listings.{tree_of, standard}
+use Rattle.trees.specs.Splits.{split_bytes}
 use Rattle.trees.proofs.Rules.{listing_tree}
 use Rattle.trees.proofs.Listings.{tree_listing}
 use Rattle.listings.proofs.ListingRefusal.{Accepted, accepted_listing}
@@ -19,7 +20,11 @@ use Rattle.splits.proofs.splits.Goals as goal
 
 pub returns-in_default : goal.returns-in_default
 unfolding splits_answer
-returns-in_default c = call_refused _ c.judge_for_splits-judged.ensures _ _ c.in_default.is
+returns-in_default c =
+    let a = c.args in
+    let made = split_bytes a.n (tree_of a.n a.listing.now) in
+    let both = call_refused _ c.judge_for_splits-judged.ensures made a.out.now c.in_default.is in
+    record { answer = both.0; buffer = both.1 }
 
 -- the listing is accepted
 fine :
@@ -36,20 +41,22 @@ standard_rows-requires c =
 
 -- the standard listing stands at the front of the local rows
 module _ (c : After-standard_rows) where
+  kept :
+      let a = c.args in
+      Accepted a.n a.listing.now (set_bytes * (a.n - 3)) (length a.out.now)
+  kept = accepted_listing _ _ _ _ (call_passed _ c.judge_for_splits-judged.ensures c.in-Done.is)
+
   rows_are :
       let a = c.args in
       take (2 * (a.n - 2)) c.standard_rows.new.out ≡ standard a.n (tree_of a.n a.listing.now)
   rows_are =
       let n = c.args.n in
-      ap (take (2 * (n - 2))) c.standard_rows.ensures
-      ∙ take_at _ _ _ (standard_length _ _ (fine (goal.at.X c).In-Done).count (fine (goal.at.X c).In-Done).keeps)
+      ap (take (2 * (n - 2))) c.standard_rows.ensures ∙ take_at _ _ _ (standard_length _ _ kept.count kept.keeps)
 
   rows_long :
       let n = c.args.n in
       length (take (2 * (n - 2)) c.standard_rows.new.out) ≡ 2 * (n - 2)
-  rows_long =
-      let a = fine (goal.at.X c).In-Done in
-      ap length rows_are ∙ standard_length _ _ a.count a.keeps
+  rows_long = ap length rows_are ∙ standard_length _ _ kept.count kept.keeps
 
 pub overflow_sub-end : goal.overflow_sub-end
 overflow_sub-end c = omega (arith, (fine (goal.at.overflow_sub-end c).In-Done).count)
@@ -60,7 +67,8 @@ overflow_mul-end c = omega (arith, (fine (goal.at.overflow_mul-end c).In-Done).c
 pub slice_bounds-rows-end : goal.slice_bounds-rows-end
 slice_bounds-rows-end c =
     let n = c.args.n in
-    omega (arith, rows_long (goal.at.slice_bounds-rows-end c).After-standard_rows, length-take (2 * (n - 2)) c.standard_rows.new.out)
+    let long = rows_long (goal.at.slice_bounds-rows-end c).After-standard_rows in
+    omega (arith, long, length-take (2 * (n - 2)) c.standard_rows.new.out)
 
 pub slice_bounds-write_splits-end : goal.slice_bounds-write_splits-end
 slice_bounds-write_splits-end c = sym (rows_long (goal.at.slice_bounds-write_splits-end c).After-standard_rows)
@@ -69,10 +77,12 @@ pub write_splits-requires : goal.write_splits-requires
 write_splits-requires c =
     let a = fine (goal.at.write_splits-requires c).In-Done in
     let tree = listing_tree _ a.count _ a.keeps in
-    (a.count, rw (rows_are (goal.at.write_splits-requires c).After-standard_rows) (tree_listing _ a.count _ tree).0, a.room_enough)
+    let rows = rows_are (goal.at.write_splits-requires c).After-standard_rows in
+    (a.count, rw rows (tree_listing _ a.count _ tree).0, a.room_enough)
 
 pub returns : goal.returns
 unfolding splits_answer
 returns c =
-    call_done _ c.judge_for_splits-judged.ensures _ _ c.in-Done.is
-    (c.write_splits.ensures ∙ rw (rows_are (goal.at.returns c).After-standard_rows) (splits_end _ _ _))
+    let both = call_done _ c.judge_for_splits-judged.ensures _ c.args.out.now c.in-Done.is
+    (c.write_splits.ensures ∙ rw (rows_are (goal.at.returns c).After-standard_rows) (splits_end _ _ _)) in
+    record { answer = both.0; buffer = both.1 }

@@ -31,11 +31,11 @@ least_of-requires-2 c =
 known :
     (c : After-least_of-2)
     → let a = c.args in
-    (c.least_of.result ≡ least (part a.n a.listing.now (row_first a.n a.listing.now a.v)))
+    RowOf a.n a.listing.now (a.v - a.n) c.row_at-r.result
+    → (c.least_of.result ≡ least (part a.n a.listing.now (row_first a.n a.listing.now a.v)))
     × (c.least_of-2.result ≡ least (part a.n a.listing.now (row_second a.n a.listing.now a.v)))
-known c =
-    let p = c.requires in
-    let r = this (goal.at.X c).After-row_at-r in (
+known c r =
+    let p = c.requires in (
       c.least_of.ensures ∙ p.1.is _ (omega (arith, r.first_before, p.0)) ∙ rw r.first_is,
       c.least_of-2.ensures ∙ p.1.is _ (omega (arith, r.second_before, p.0)) ∙ rw r.second_is,
     )
@@ -44,14 +44,14 @@ pub returns-then-least_of : goal.returns-then-least_of
 unfolding pick
 returns-then-least_of c =
     let r = this (goal.at.returns-then-least_of c).After-row_at-r in
-    let e = known (goal.at.returns-then-least_of c).After-least_of-2 in
+    let e = known (goal.at.returns-then-least_of c).After-least_of-2 r in
     let less = lt-ltb _ _ (rw (e.0, e.1) at c.if-least_of.true) in
-    (r.first_is ∙ rw less, r.second_is ∙ rw less)
+    record { first = r.first_is ∙ rw less; second = r.second_is ∙ rw less }
 
 pub returns : goal.returns
 unfolding pick
 returns c =
     let r = this (goal.at.returns c).After-row_at-r in
-    let e = known (goal.at.returns c).After-least_of-2 in
+    let e = known (goal.at.returns c).After-least_of-2 r in
     let more = le-ltb _ _ (rw (e.0, e.1) at c.if-least_of.false) in
-    (r.second_is ∙ rw more, r.first_is ∙ rw more)
+    record { first = r.second_is ∙ rw more; second = r.first_is ∙ rw more }

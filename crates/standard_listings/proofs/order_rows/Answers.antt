@@ -24,24 +24,24 @@ pub loop-v-init : goal.loop-v-init
 loop-v-init c = (omega arith, omega arith, leasts_none _ _ _ c.requires.2, order_none _ _ _ c.requires.3)
 
 pub in_order-c-requires : goal.in_order-c-requires
-in_order-c-requires c = (at-node c, c.loop.invariant.2)
+in_order-c-requires c = (at-node c, c.loop-v.invariant.2)
 
 pub least_of-requires : goal.least_of-requires
 least_of-requires c =
     let w = at-node (goal.at.least_of-requires c).In-loop-v in
-    (w.count, omega (arith, c.in_order.ensures.0, first_below w, w))
+    (w.count, omega (arith, c.in_order-c.ensures.first, first_below w, w))
 
 pub bounds-leasts-v : goal.bounds-leasts-v
 bounds-leasts-v c =
     omega (
       arith,
-      c.loop.invariant.2.long,
+      c.loop-v.invariant.2.long,
       at-node (goal.at.bounds-leasts-v c).In-loop-v,
     )
 
 pub overflow_cast-sorted : goal.overflow_cast-sorted
 overflow_cast-sorted c =
-    omega (arith, c.in_order-c.ensures.0, first_below (at-node (goal.at.overflow_cast-sorted c).In-loop-v))
+    omega (arith, c.in_order-c.ensures.first, first_below (at-node (goal.at.overflow_cast-sorted c).In-loop-v))
 
 pub bounds-sorted-k : goal.bounds-sorted-k
 bounds-sorted-k c =
@@ -54,7 +54,7 @@ bounds-sorted-k c =
 pub overflow_cast-sorted-in-loop-v : goal.overflow_cast-sorted-in-loop-v
 overflow_cast-sorted-in-loop-v c =
     let w = at-node (goal.at.overflow_cast-sorted-in-loop-v c).In-loop-v in
-    omega (arith, c.in_order-c.ensures.1, second_below w)
+    omega (arith, c.in_order-c.ensures.second, second_below w)
 
 pub bounds-sorted-k-in-loop-v : goal.bounds-sorted-k-in-loop-v
 bounds-sorted-k-in-loop-v c =
@@ -72,8 +72,8 @@ loop-v-preserved c =
     let least_first = inv.2.is _ (first_below w) ∙ sym (least_node w) in (
       omega arith,
       omega arith,
-      leasts_more _ _ _ _ _ w.low (omega arith) (c.least_of.ensures ∙ rw made.0 least_first) inv.2,
-      order_more _ _ _ _ _ _ w.low (omega arith) made.0 made.1 inv.3,
+      leasts_more _ _ _ _ _ w.low (omega arith) (c.least_of.ensures ∙ rw made.first least_first) inv.2,
+      order_more _ _ _ _ _ _ w.low (omega arith) made.first made.second inv.3,
     )
 
 pub returns : goal.returns

@@ -1,6 +1,7 @@
 -- `standard_listings::standardise` meets its contract: nothing is written before the judge is done, and what it accepts
 -- keeps the rules, so that its standard listing is written.
 use Rattle.refusals.proofs.Answers.{call_passed, call_refused, call_done}
+use Rattle.trees.specs.Listings.{tree_of, standard}
 use Rattle.listings.proofs.ListingRefusal.{accepted_listing}
 use Rattle.standard_listings.specs.Operations.{standardise_answer}
 use Rattle.standard_listings.proofs.SubtreeRows.{standard_end}
@@ -8,13 +9,14 @@ use Rattle.standard_listings.proofs.standardise.Goals as goal
 
 pub returns-in_default : goal.returns-in_default
 unfolding standardise_answer
-returns-in_default c = call_refused _ c.judge_for_rows-judged.ensures _ _ c.in_default.is
+returns-in_default c =
+    let both = call_refused _ c.judge_for_rows-judged.ensures (standard c.args.n (tree_of c.args.n c.args.listing.now))
+    c.args.out.now c.in_default.is in
+    record { answer = both.0; buffer = both.1 }
 
 pub standard_rows-requires : goal.standard_rows-requires
 standard_rows-requires c =
-    let a =
-    accepted_listing _ _ _ _ (call_passed _ c.judge_for_rows-judged.ensures
-    c.in-Done.is) in
+    let a = accepted_listing _ _ _ _ (call_passed _ c.judge_for_rows-judged.ensures c.in-Done.is) in
     (a.count, a.keeps, a.room_enough)
 
 pub returns : goal.returns
@@ -22,5 +24,6 @@ unfolding standardise_answer
 returns c =
     let told = c.judge_for_rows-judged.ensures in
     let done = c.in-Done.is in
-    call_done _ told _ _ done (standard_end _ _ _ _ _ (call_passed _ told done)
-    c.standard_rows.ensures)
+    let both = call_done _ told _ c.args.out.now done (standard_end _ _ _ _ _ (call_passed _ told done)
+    c.standard_rows.ensures) in
+    record { answer = both.0; buffer = both.1 }

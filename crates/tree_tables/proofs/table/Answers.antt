@@ -3,6 +3,7 @@
 use mathlib.Core.Path.{◌∙◌}
 use Rattle.base.proofs.Lists.{length_tab}
 use Rattle.refusals.proofs.Answers.{call_passed, call_refused, call_done}
+use Rattle.trees.specs.Listings.{tree_of}
 use Rattle.trees.specs.Tables.{table_of}
 use Rattle.listings.proofs.ListingRefusal.{accepted_listing}
 use Rattle.tree_tables.specs.Operations.{table_answer}
@@ -10,16 +11,20 @@ use Rattle.tree_tables.proofs.table.Goals as goal
 
 pub returns-in_default : goal.returns-in_default
 unfolding table_answer
-returns-in_default c = call_refused _ c.judge_for_cells-judged.ensures _ _ c.in_default.is
+returns-in_default c =
+    let a = c.args in
+    let made = table_of a.n (tree_of a.n a.listing.now) in
+    let both = call_refused _ c.judge_for_cells-judged.ensures made a.out.now c.in_default.is in
+    record { answer = both.0; buffer = both.1 }
 
 pub fill_table-requires : goal.fill_table-requires
 fill_table-requires c =
-    let a =
-    accepted_listing _ _ _ _ (call_passed _ c.judge_for_cells-judged.ensures c.in-Done.is) in
+    let a = accepted_listing _ _ _ _ (call_passed _ c.judge_for_cells-judged.ensures c.in-Done.is) in
     (a.count, a.keeps, a.room_enough)
 
 pub returns : goal.returns
 unfolding table_answer table_of
 returns c =
-    call_done _ c.judge_for_cells-judged.ensures _ _ c.in-Done.is
-    (c.fill_table.ensures ∙ simp length_tab)
+    let both = call_done _ c.judge_for_cells-judged.ensures _ c.args.out.now c.in-Done.is
+    (c.fill_table.ensures ∙ simp length_tab) in
+    record { answer = both.0; buffer = both.1 }
