@@ -12,7 +12,9 @@ use Rattle.lent_sets.proofs.combine.Goals as goal
 
 pub returns-in_default : goal.returns-in_default
 unfolding combine_answer
-returns-in_default c = call_refused _ c.judge-judged.ensures _ _ c.in_default.is
+returns-in_default c =
+    let said = call_refused _ c.judge-judged.ensures _ _ c.in_default.is in
+    record { answer = said.0; buffer = said.1 }
 
 -- nothing is refused
 fine :
@@ -37,5 +39,5 @@ returns c =
     let second = c.lent-2.ensures in
     let what = c.args.what in
     let set = c.combine.ensures ∙ ap₂ (λ a b. bytes_of (combined what (set_of a) (set_of b))) first second in
-    call_done _ c.judge-judged.ensures _ _ c.in-Done.is
-    (put_front _ _ _ set c.put_set.ensures)
+    let said = call_done _ c.judge-judged.ensures _ _ c.in-Done.is (put_front _ _ _ set c.put_set.ensures) in
+    record { answer = said.0; buffer = said.1 }

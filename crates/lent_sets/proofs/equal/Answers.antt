@@ -42,9 +42,11 @@ told c =
 pub returns-then-equal : goal.returns-then-equal
 unfolding equal_answer
 returns-then-equal c =
-    verdict_yes _ _ (fine (goal.at.returns-then-equal c).In_default) (sym (told (goal.at.returns-then-equal c).After-equal) ∙ c.if-equal.true)
+    let at = goal.at.returns-then-equal c in
+    verdict_yes _ _ (fine at.In_default) (sym (told at.After-equal) ∙ c.if-equal.true)
 
 pub returns : goal.returns
 unfolding equal_answer
 returns c =
-    verdict_no _ _ (fine (goal.at.returns c).In_default) (sym (told (goal.at.returns c).After-equal) ∙ c.if-equal.false)
+    let at = goal.at.returns c in
+    verdict_no _ _ (fine at.In_default) (sym (told at.After-equal) ∙ c.if-equal.false)

@@ -8,7 +8,8 @@ use Rattle.limits.proofs.TableKinds.{leaf_count_of}
 use Rattle.checks.proofs.Sizes.{is_count, is_leaf_count}
 use Rattle.looks.proofs.Refusals.{count_told, new_count_told, numbers_told, cells_told, new_cells_told}
 use Rattle.looks.proofs.Refusals.{room_told, sizes_told}
-use Rattle.looks.proofs.judge_sizes.Goals.{Else-cells-table_cells, Else-new_cells-table_cells, Else-not-leaf_count, Else-not-leaf_count_of, Else-numbers-listing_numbers}
+use Rattle.looks.proofs.judge_sizes.Goals.{Else-cells-table_cells, Else-new_cells-table_cells, Else-not-leaf_count}
+use Rattle.looks.proofs.judge_sizes.Goals.{Else-not-leaf_count_of, Else-numbers-listing_numbers}
 use Rattle.looks.proofs.judge_sizes.Goals as goal
 
 pub returns-then-not-leaf_count : goal.returns-then-not-leaf_count
@@ -29,18 +30,23 @@ new_count c =
 
 pub returns-then-numbers-listing_numbers : goal.returns-then-numbers-listing_numbers
 returns-then-numbers-listing_numbers c =
-    let k = count (goal.at.returns-then-numbers-listing_numbers c).Else-not-leaf_count in
-    numbers_told _ _ _ _ _ _ _ k (new_count (goal.at.returns-then-numbers-listing_numbers c).Else-not-leaf_count_of) (λ h. c.if-numbers-listing_numbers.true (h ∙ sym (c.listing_numbers.ensures k)))
+    let at = goal.at.returns-then-numbers-listing_numbers c in
+    let k = count at.Else-not-leaf_count in
+    numbers_told _ _ _ _ _ _ _ k (new_count at.Else-not-leaf_count_of)
+    (λ h. c.if-numbers-listing_numbers.true (h ∙ sym (c.listing_numbers.ensures k)))
 
 numbers :
     (c : Else-numbers-listing_numbers)
     → let a = c.args in a.numbers ≡ 2 * (a.n - 2)
-numbers c = c.if-numbers-listing_numbers.false ∙ c.listing_numbers.ensures (count (goal.at.table_cells-requires c).Else-not-leaf_count)
+numbers c =
+    c.if-numbers-listing_numbers.false
+    ∙ c.listing_numbers.ensures (count (goal.at.table_cells-requires c).Else-not-leaf_count)
 
 pub returns-then-cells-table_cells : goal.returns-then-cells-table_cells
 returns-then-cells-table_cells c =
-    let k = count (goal.at.returns-then-cells-table_cells c).Else-not-leaf_count in
-    cells_told _ _ _ _ _ _ _ k (new_count (goal.at.returns-then-cells-table_cells c).Else-not-leaf_count_of) (numbers (goal.at.returns-then-cells-table_cells c).Else-numbers-listing_numbers)
+    let at = goal.at.returns-then-cells-table_cells c in
+    let k = count at.Else-not-leaf_count in
+    cells_told _ _ _ _ _ _ _ k (new_count at.Else-not-leaf_count_of) (numbers at.Else-numbers-listing_numbers)
     (λ h. c.if-cells-table_cells.true (h ∙ sym (c.table_cells.ensures k)))
 
 cells :
@@ -58,24 +64,33 @@ new-leaf-count c =
 
 pub returns-then-new_cells-table_cells : goal.returns-then-new_cells-table_cells
 returns-then-new_cells-table_cells c =
-    new_cells_told _ _ _ _ _ _ _ (count (goal.at.returns-then-new_cells-table_cells c).Else-not-leaf_count) (new_count (goal.at.returns-then-new_cells-table_cells c).Else-not-leaf_count_of)
-    (numbers (goal.at.returns-then-new_cells-table_cells c).Else-numbers-listing_numbers) (cells (goal.at.returns-then-new_cells-table_cells c).Else-cells-table_cells) (λ h. c.if-new_cells-table_cells.true (h ∙ sym (c.table_cells-2.ensures (new-leaf-count (goal.at.returns-then-new_cells-table_cells c).Else-cells-table_cells))))
+    let at = goal.at.returns-then-new_cells-table_cells c in
+    let larger = new-leaf-count at.Else-cells-table_cells in
+    new_cells_told _ _ _ _ _ _ _ (count at.Else-not-leaf_count) (new_count at.Else-not-leaf_count_of)
+    (numbers at.Else-numbers-listing_numbers) (cells at.Else-cells-table_cells)
+    (λ h. c.if-new_cells-table_cells.true (h ∙ sym (c.table_cells-2.ensures larger)))
 
 new_cells :
     (c : Else-new_cells-table_cells)
     → let a = c.args in
-    a.new_cells ≡ (a.n + 1) * (a.n + 1)
-new_cells c = c.if-new_cells-table_cells.false ∙ c.table_cells-2.ensures (new-leaf-count (goal.at.X c).Else-cells-table_cells)
+    IsLeafCount (a.n + 1) → a.new_cells ≡ (a.n + 1) * (a.n + 1)
+new_cells c count = c.if-new_cells-table_cells.false ∙ c.table_cells-2.ensures count
 
 pub returns-then-room-due : goal.returns-then-room-due
 returns-then-room-due c =
-    room_told _ _ _ _ _ _ _ (count (goal.at.returns-then-room-due c).Else-not-leaf_count) (new_count (goal.at.returns-then-room-due c).Else-not-leaf_count_of) (numbers (goal.at.returns-then-room-due c).Else-numbers-listing_numbers)
-    (cells (goal.at.returns-then-room-due c).Else-cells-table_cells) (new_cells (goal.at.returns-then-room-due c).Else-new_cells-table_cells) c.if-room-due.true
+    let at = goal.at.returns-then-room-due c in
+    let larger = new-leaf-count at.Else-cells-table_cells in
+    room_told _ _ _ _ _ _ _ (count at.Else-not-leaf_count) (new_count at.Else-not-leaf_count_of)
+    (numbers at.Else-numbers-listing_numbers) (cells at.Else-cells-table_cells)
+    (new_cells at.Else-new_cells-table_cells larger) c.if-room-due.true
 
 pub returns : goal.returns
 returns c =
-    sizes_told _ _ _ _ _ _ _ (count (goal.at.returns c).Else-not-leaf_count) (new_count (goal.at.returns c).Else-not-leaf_count_of) (numbers (goal.at.returns c).Else-numbers-listing_numbers)
-    (cells (goal.at.returns c).Else-cells-table_cells) (new_cells (goal.at.returns c).Else-new_cells-table_cells) (omega (arith, c.if-room-due.false))
+    let at = goal.at.returns c in
+    let larger = new-leaf-count at.Else-cells-table_cells in
+    sizes_told _ _ _ _ _ _ _ (count at.Else-not-leaf_count) (new_count at.Else-not-leaf_count_of)
+    (numbers at.Else-numbers-listing_numbers) (cells at.Else-cells-table_cells)
+    (new_cells at.Else-new_cells-table_cells larger) (omega (arith, c.if-room-due.false))
 
 pub overflow_add-n : goal.overflow_add-n
 overflow_add-n c = omega (arith, count c)

@@ -6,9 +6,9 @@ use lib.ListN.{length}
 use Rattle.refusals.specs.Refusals.{outcome_of}
 use Rattle.refusals.proofs.Answers.{call_passed, call_refused, call_done}
 use Rattle.look_answers.specs.Operations.{look_refusal, look_all_answer}
-use Rattle.look_answers.proofs.Accepted.{Accepted, accepted_look}
+use Rattle.look_answers.proofs.Accepted.{accepted_look}
 use Rattle.looks.proofs.AllEdges.{all_refused, filled_written}
-use Rattle.looks.proofs.look_all.Goals.{After-judge-judged, In-Done}
+use Rattle.looks.proofs.look_all.Goals.{After-judge-judged}
 use Rattle.looks.proofs.look_all.Goals as goal
 
 -- what was judged
@@ -23,23 +23,20 @@ judged c = c.judge-judged.ensures ∙ ap outcome_of (all_refused _ _ _ _ _ _ _ c
 
 pub returns-in_default : goal.returns-in_default
 unfolding look_all_answer
-returns-in_default c = call_refused _ (judged (goal.at.returns-in_default c).After-judge-judged) _ _ c.in_default.is
-
--- nothing is refused
-right :
-    (c : In-Done)
-    → let a = c.args in
-    Accepted a.kind a.n a.listing.now a.table.now a.new.now true (2 * a.n - 3)
-    (length a.out.now)
-right c = accepted_look _ _ _ _ _ _ _ _ (call_passed _ (judged (goal.at.X c).After-judge-judged) c.in-Done.is)
+returns-in_default c =
+    let said = call_refused _ (judged (goal.at.returns-in_default c).After-judge-judged) _ _ c.in_default.is in
+    record { answer = said.0; buffer = said.1 }
 
 pub write_all-requires : goal.write_all-requires
 write_all-requires c =
-    let w = right (goal.at.write_all-requires c).In-Done in
+    let passed = call_passed _ (judged (goal.at.write_all-requires c).After-judge-judged) c.in-Done.is in
+    let w = accepted_look _ _ _ _ _ _ _ _ passed in
     (w.sizes.count, w.sizes.new_count, w.keeps, w.is_own, w.is_table, w.sizes.enough)
 
 pub returns : goal.returns
 unfolding look_all_answer
 returns c =
-    call_done _ (judged (goal.at.returns c).After-judge-judged) _ _ c.in-Done.is
-    (c.write_all.ensures ∙ filled_written _ _ _)
+    let said =
+        call_done _ (judged (goal.at.returns c).After-judge-judged) _ _ c.in-Done.is
+        (c.write_all.ensures ∙ filled_written _ _ _) in
+    record { answer = said.0; buffer = said.1 }

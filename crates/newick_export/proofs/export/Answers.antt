@@ -5,7 +5,9 @@ use Rattle.newick_export.proofs.ExportAnswer.{export_refused, export_ready, expo
 use Rattle.newick_export.proofs.export.Goals as goal
 
 pub returns-in_default : goal.returns-in_default
-returns-in_default c = export_refused _ _ _ c.judge_export-outcome.ensures.answer c.in_default.is
+returns-in_default c =
+    let said = export_refused _ _ _ c.judge_export-outcome.ensures.answer c.in_default.is in
+    record { answer = said.0; buffer = said.1 }
 
 pub judge_export-outcome-requires : goal.judge_export-outcome-requires
 judge_export-outcome-requires c = (c.figures_of-figures.ensures, index_none _)
@@ -17,5 +19,7 @@ write_text-length-requires c =
 
 pub returns : goal.returns
 returns c =
-    export_done _ _ _ c.judge_export-outcome.ensures.answer c.in-Done.is c.figures_of-figures.ensures.0
-    c.write_text-length.ensures
+    let said =
+        export_done _ _ _ c.judge_export-outcome.ensures.answer c.in-Done.is c.figures_of-figures.ensures.0
+        c.write_text-length.ensures in
+    record { answer = said.0; buffer = said.1 }

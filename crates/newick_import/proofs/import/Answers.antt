@@ -27,25 +27,32 @@ judged :
     ≡ outcome_of (sheet_refusal a.sheet.now (2 * (leaves_of a.sheet.now - 2)) (length a.out.now)))
 judged c =
     let figures = c.figures_of-figures.ensures in
-    rw (c.rows_of.ensures, figures.0) at c.index_sheet-judged.ensures.0
+    rw (c.rows_of.ensures, figures.0) at c.index_sheet-judged.ensures.answer
 
 pub returns-in_default : goal.returns-in_default
 unfolding import_answer
 returns-in_default c =
-    with_meaning outcome (ImportMeans _ _ _) (import_answer _ _ _) (import_answer_says _ _ _)
-    (unless_told _ _ _ _ _ (judged (goal.at.returns-in_default c).After-index_sheet-judged) c.in_default.is)
+    let told = judged (goal.at.returns-in_default c).After-index_sheet-judged in
+    let said =
+        with_meaning outcome (ImportMeans _ _ _) (import_answer _ _ _) (import_answer_says _ _ _)
+        (unless_told _ _ _ _ _ told c.in_default.is) in
+    record { answer = said.0; buffer = said.1.0; meaning = said.1.1 }
 
 pub import_indexed-requires : goal.import_indexed-requires
 import_indexed-requires c =
     let figures = c.figures_of-figures.ensures in
     let done = c.in-Done.is in
-    let ready = sheet_ready _ _ _ figures.0 (call_passed _ (judged (goal.at.import_indexed-requires c).After-index_sheet-judged) done) in
-    let indexed = c.index_sheet-judged.ensures.1 (call_passed _ c.index_sheet-judged.ensures.0 done) in
-    (ready.0, record { leaves = figures.0; (goal.at.import_indexed-requires c).After-index_sheet-judged = rw figures.0 indexed }, ready.1, ready.2)
+    let told = judged (goal.at.import_indexed-requires c).After-index_sheet-judged in
+    let ready = sheet_ready _ _ _ figures.0 (call_passed _ told done) in
+    let indexed = c.index_sheet-judged.ensures.index (call_passed _ c.index_sheet-judged.ensures.answer done) in
+    (ready.0, record { leaves = figures.0; index = rw figures.0 indexed }, ready.1, ready.2)
 
 pub returns : goal.returns
 unfolding import_answer
 returns c =
     let passed = call_passed _ (judged (goal.at.returns c).After-index_sheet-judged) c.in-Done.is in
-    with_meaning outcome (ImportMeans _ _ _) (import_answer _ _ _) (import_answer_says _ _ _)
-    (unless_none _ _ _ _ _ passed c.import_indexed.ensures)
+    let made = c.import_indexed.ensures in
+    let said =
+        with_meaning outcome (ImportMeans _ _ _) (import_answer _ _ _) (import_answer_says _ _ _)
+        (unless_none _ _ _ _ _ passed (made.answer, made.buffer)) in
+    record { answer = said.0; buffer = said.1.0; meaning = said.1.1 }

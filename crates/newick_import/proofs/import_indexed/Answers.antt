@@ -27,46 +27,38 @@ read_text-read-requires c =
 pub returns-in_default : goal.returns-in_default
 returns-in_default c =
     let said = c.read_text-read.ensures.outcome_is in
-    (said, import_refused (imported _ _) _ _ (sym c.in_default.is ∙ said))
+    record { answer = said; buffer = import_refused (imported _ _) _ _ (sym c.in_default.is ∙ said) }
 
 pub write_chain-requires : goal.write_chain-requires
-write_chain-requires c =
-    (c.read_text-read.ensures.drawn c.in-Done.is).room
-
--- the call as it began
-abbrev started : tie.After-write-chain → tie.Start
-started c =
-    let told = c.before.before.before in
-    told.before.before.before.before.before.before.before.before.before.before.before
+write_chain-requires c = (c.read_text-read.ensures.drawn c.in-Done.is).room
 
 pub overflow_sub-end : goal.overflow_sub-end
-overflow_sub-end c = omega (arith, (started c).requires.0.0)
+overflow_sub-end c = omega (arith, c.requires.0.0)
 
 pub overflow_mul-end : goal.overflow_mul-end
-overflow_mul-end c = omega (arith, (started c).requires.0)
+overflow_mul-end c = omega (arith, c.requires.0)
 
 pub slice_bounds-rows-end : goal.slice_bounds-rows-end
-slice_bounds-rows-end c = omega (arith, (started c).requires.0)
+slice_bounds-rows-end c = omega (arith, c.requires.0)
 
 pub slice_bounds-standard_rows-end : goal.slice_bounds-standard_rows-end
 slice_bounds-standard_rows-end c =
-    sym (length-take-le _ _ (omega (arith, c.write_chain.ensures.1, (started (goal.at.slice_bounds-standard_rows-end c).After-write_chain).requires.0)))
+    sym (length-take-le _ _ (omega (arith, c.write_chain.ensures.1, c.requires.0)))
 
 pub standard_rows-requires : goal.standard_rows-requires
 standard_rows-requires c =
     let drawn = c.read_text-read.ensures.drawn c.in-Done.is in
-    let s = started (goal.at.standard_rows-requires c).After-write_chain in
     let listed = chain_front _ drawn.room drawn.keeps c.write_chain.ensures.0 in
-    (s.pre.0, rw listed drawn.keeps, s.pre.3)
+    (c.requires.0, rw listed drawn.keeps, c.requires.3)
 
 pub returns : goal.returns
 returns c =
-    let s = started (goal.at.returns c).After-write_chain in
     let said = c.read_text-read.ensures.outcome_is in
     let drawn = c.read_text-read.ensures.drawn c.in-Done.is in
     let listed = chain_front _ drawn.room drawn.keeps c.write_chain.ensures.0 in
-    let done = sym c.in-Done.is ∙ said in (
-      said,
-      c.standard_rows.ensures
-          ∙ rw listed (sym (import_done _ _ s.pre.0 s.pre.2.many done drawn _)),
-    )
+    let done = sym c.in-Done.is ∙ said in
+    record {
+      answer = said;
+      buffer =
+          c.standard_rows.ensures ∙ rw listed (sym (import_done _ _ c.requires.0 c.requires.2.many done drawn _));
+    }
