@@ -17,7 +17,7 @@ pub returns-in_default : goal.returns-in_default
 unfolding rebuild_answer
 returns-in_default c =
     let judged = c.judge_for_rows-judged.ensures in
-    let t = rebuild_gives _ _ _ _ outcome (unless_told _ _ _ c.args.out.now _ _ judged c.in_default.is) in
+    let t = rebuild_gives _ _ _ _ outcome (unless_told _ _ c.args.out.now _ _ judged c.in_default.is) in
     record { answer = t.0; buffer = t.1.0; meaning = t.1.1 }
 
 -- nothing was refused

@@ -74,5 +74,5 @@ returns c =
     let scale = (given (goal.at.returns c).After-scaled_counts-p).0 in
     record {
       answer = rw scale at (rebuilt_done g.leaf_count g.scaled.0 g.is_table end fits);
-      buffer = c.standardise.ensures.1 ∙ ap (λ a. written a c.args.out.now) (rw scale at listing);
+      buffer = c.standardise.ensures.buffer ∙ ap (λ a. written a c.args.out.now) (rw scale at listing);
     }

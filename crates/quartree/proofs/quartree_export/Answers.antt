@@ -6,4 +6,4 @@ use Rattle.quartree.proofs.quartree_export.Goals as goal
 pub returns : goal.returns
 returns c =
     let done = c.export-exported.ensures in
-    (length_replied _ _ _ done.0 c.reply_with.ensures, done.1)
+    record { answer = length_replied _ _ _ done.answer c.reply_with.ensures; buffer = done.buffer }

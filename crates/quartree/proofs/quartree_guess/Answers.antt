@@ -9,5 +9,7 @@ pub returns : goal.returns
 unfolding guess_listing
 returns c =
     let done = rw c.kind_of.ensures at c.guess.ensures in
+    let t =
     reply_gives guess_reply _ _ (guess_meaning _ _ _ _)
-    (guess_replied _ c.guess_reply.ensures done.0, done.1.0)
+    (guess_replied _ c.guess_reply.ensures done.answer, done.buffer) in
+    record { answer = t.0; buffer = t.1.0; meaning = t.1.1 }

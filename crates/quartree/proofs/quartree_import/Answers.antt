@@ -14,6 +14,8 @@ pub returns : goal.returns
 unfolding import_record
 returns c =
     let done = c.import.ensures in
+    let t =
     with_meaning (λ a. record_reply (marked _ Imported a)) (ImportMeans _ _ _) (import_answer _ _ _)
     (import_answer_says _ _ _)
-    (record_replied _ c.record_reply.ensures done.0, done.1.0)
+    (record_replied _ c.record_reply.ensures done.answer, done.buffer) in
+    record { answer = t.0; buffer = t.1.0; meaning = t.1.1 }

@@ -12,5 +12,7 @@ pub returns : goal.returns
 unfolding guided_record
 returns c =
     let done = rw c.kind_of.ensures at c.rebuild_guided.ensures in
+    let t =
     guided_gives _ _ _ _ _ (λ a. record_reply (marked _ Rebuilt a))
-    (record_replied _ c.record_reply.ensures done.0, done.1.0)
+    (record_replied _ c.record_reply.ensures done.answer, done.buffer) in
+    record { answer = t.0; buffer = t.1.0; meaning = t.1.1 }

@@ -8,4 +8,6 @@ use Rattle.quartree.proofs.quartree_rebuild_sheet.Goals as goal
 pub returns : goal.returns
 returns c =
     let done = c.listing_bytes_of.ensures in
-    sheet_bytes_gives _ _ number_alone (said_alone _ c.answer_number.ensures done.0, done.1.0)
+    let t =
+    sheet_bytes_gives _ _ number_alone (said_alone _ c.answer_number.ensures done.answer, done.buffer) in
+    record { answer = t.0; buffer = t.1.0; meaning = t.1.1 }

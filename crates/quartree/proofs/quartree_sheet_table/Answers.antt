@@ -10,4 +10,4 @@ pub returns : goal.returns
 returns c =
     let done = c.table_of.ensures in
     let count = ap (λ x. x % figure_limit) c.figures_of-figures.ensures.0 in
-    (replied_with _ _ _ c.reply_with.ensures count done.0, done.1)
+    record { answer = replied_with _ _ _ c.reply_with.ensures count done.answer; buffer = done.buffer }

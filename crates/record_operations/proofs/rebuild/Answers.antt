@@ -11,5 +11,7 @@ pub returns : goal.returns
 unfolding rebuild_record
 returns c =
     let done = c.rebuild.ensures in
+    let t =
     rebuild_gives _ _ _ _ (λ a. tree_outcome (marked _ Rebuilt a))
-    (mark_told _ _ _ c.mark.ensures done.0, done.1.0)
+    (mark_told _ _ _ c.mark.ensures done.answer, done.buffer) in
+    record { answer = t.0; buffer = t.1.0; meaning = t.1.1 }

@@ -8,4 +8,4 @@ pub returns : goal.returns
 unfolding restandardise_record
 returns c =
     let done = c.standardise.ensures in
-    (mark_told _ _ _ c.mark.ensures done.0, done.1)
+    record { answer = mark_told _ _ _ c.mark.ensures done.answer; buffer = done.buffer }

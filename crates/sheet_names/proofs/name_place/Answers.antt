@@ -29,13 +29,13 @@ pub start_of-at-requires : goal.start_of-at-requires
 start_of-at-requires c = omega (arith, ends c)
 
 pub overflow_add-result : goal.overflow_add-result
-overflow_add-result c = omega (arith, ends (goal.at.overflow_add-result c).In-Done, c.start_of_lem.ensures)
+overflow_add-result c = omega (arith, ends (goal.at.overflow_add-result c).In-Done, c.start_of-at.ensures)
 
 pub bounds-sheet-at : goal.bounds-sheet-at
-bounds-sheet-at c = omega (arith, ends (goal.at.bounds-sheet-at c).In-Done, c.start_of_lem.ensures)
+bounds-sheet-at c = omega (arith, ends (goal.at.bounds-sheet-at c).In-Done, c.start_of-at.ensures)
 
 pub returns : goal.returns
 returns c =
     let figures = c.figures_of-figures.ensures in
     place_found _ _ figures.0 figures.1 c.judge_name-outcome.ensures c.in-Done.is
-    c.start_of_lem.ensures c.index_of_u8.ensures.0
+    c.start_of-at.ensures c.index_of_u8.ensures.0

@@ -24,27 +24,27 @@ start_of-at-requires c =
     omega (arith, ends c, start_next a.sheet.now a.leaf refl)
 
 pub overflow_add-from : goal.overflow_add-from
-overflow_add-from c = omega (arith, ends (goal.at.overflow_add-from c).In-Done, start_next _ _ c.start_of_lem.ensures)
+overflow_add-from c = omega (arith, ends (goal.at.overflow_add-from c).In-Done, start_next _ _ c.start_of-at.ensures)
 
 pub bounds-sheet-at : goal.bounds-sheet-at
-bounds-sheet-at c = omega (arith, ends (goal.at.bounds-sheet-at c).In-Done, start_next _ _ c.start_of_lem.ensures)
+bounds-sheet-at c = omega (arith, ends (goal.at.bounds-sheet-at c).In-Done, start_next _ _ c.start_of-at.ensures)
 
 pub overflow_add-to : goal.overflow_add-to
 overflow_add-to c =
-    omega (arith, ends (goal.at.overflow_add-to c).In-Done, start_next _ _ c.start_of_lem.ensures)
+    omega (arith, ends (goal.at.overflow_add-to c).In-Done, start_next _ _ c.start_of-at.ensures)
 
 pub slice_bounds-result-end-2 : goal.slice_bounds-result-end-2
 slice_bounds-result-end-2 c =
-    omega (arith, ends (goal.at.slice_bounds-result-end-2 c).In-Done, start_next _ _ c.start_of_lem.ensures)
+    omega (arith, ends (goal.at.slice_bounds-result-end-2 c).In-Done, start_next _ _ c.start_of-at.ensures)
 
 pub returns : goal.returns
 unfolding name_at
 returns c =
     let a = c.args in
     let S = a.sheet.now in
-    let p = c.start_of_lem.result in
+    let p = c.start_of-at.result in
     let w = c.index_of_u8.result in
     let many : p + 1 + w - (p + 1) ≡ get_or S p 0 = omega arith in
     let here : take (p + 1 + w - (p + 1)) (drop (p + 1) S) ≡ name S a.leaf =
-    rw many (start_name S a.leaf c.start_of_lem.ensures) in
+    rw many (start_name S a.leaf c.start_of-at.ensures) in
     shown_whole _ _ c.in-Done.is here

@@ -1,0 +1,8 @@
+-- `quartree::quartree_poll` meets its contract: reply and buffer are those of the operation that it calls.
+use Rattle.replies.proofs.Replies.{replied}
+use Rattle.quartree.proofs.quartree_poll.Goals as goal
+
+pub returns : goal.returns
+returns c =
+    let done = c.poll.ensures in
+    record { answer = replied _ c.reply_of.ensures done.answer; buffer = done.buffer }
