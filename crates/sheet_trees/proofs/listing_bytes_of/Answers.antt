@@ -10,7 +10,7 @@ use Rattle.refusals.specs.Refusals.{outcome}
 use Rattle.refusals.proofs.Answers.{done_none, unless_told}
 use Rattle.sheet_rules.specs.Sheets.{leaves_of}
 use Rattle.sheet_rules.specs.Operations.{sheet_refusal}
-use Rattle.sheet_trees.specs.Operations.{sheet_bytes_answer}
+use Rattle.sheet_trees.specs.Operations.{sheet_tree, in_bytes, sheet_bytes_answer}
 use Rattle.sheet_trees.proofs.SheetTree.{accepted_here}
 use Rattle.sheet_trees.proofs.InBytes.{fits, bytes_answer, bytes_refused, bytes_written}
 use Rattle.sheet_trees.proofs.Promises.{sheet_bytes_gives}
@@ -20,7 +20,9 @@ use Rattle.sheet_trees.proofs.listing_bytes_of.Goals as goal
 pub returns-in_default : goal.returns-in_default
 unfolding sheet_bytes_answer
 returns-in_default c =
-    let told = unless_told _ _ _ _ c.args.out.now c.judge_rows-judged.ensures c.in_default.is in
+    let a = c.args in
+    let judged = c.judge_rows-judged.ensures in
+    let told = unless_told _ (in_bytes (sheet_tree a.sheet.now)) a.out.now _ _ judged c.in_default.is in
     let all = sheet_bytes_gives _ _ outcome told in
     record { answer = all.0; buffer = all.1.0; meaning = all.1.1 }
 

@@ -7,14 +7,16 @@ use lib.ListN.{length}
 use Rattle.refusals.proofs.Answers.{done_none, unless_told, unless_none}
 use Rattle.sheet_rules.specs.Sheets.{leaves_of}
 use Rattle.sheet_rules.specs.Operations.{sheet_refusal}
-use Rattle.sheet_trees.specs.Operations.{sheet_listing_answer}
+use Rattle.sheet_trees.specs.Operations.{sheet_tree, sheet_listing_answer}
 use Rattle.sheet_trees.proofs.listing_of.Goals.{In-Done}
 use Rattle.sheet_trees.proofs.listing_of.Goals as goal
 
 pub returns-in_default : goal.returns-in_default
 unfolding sheet_listing_answer
 returns-in_default c =
-    let both = unless_told _ _ _ _ c.args.listing.now c.judge_rows-judged.ensures c.in_default.is in
+    let a = c.args in
+    let told = c.judge_rows-judged.ensures in
+    let both = unless_told _ (sheet_tree a.sheet.now) a.listing.now _ _ told c.in_default.is in
     record { answer = both.0; buffer = both.1 }
 
 -- `judge_rows` found nothing to refuse
