@@ -3,23 +3,24 @@
        draw < SHEET > PICTURE
 
    A tree has no root and no branch lengths. It is drawn as hanging from leaf 0, whose node stands at the left; every
-   leaf has a line of its own, in the standard listing's order, with its name at the right. Where no tree has the
-   sheet's table, the tree is a guess: its lines are dashed, and a line of text below them has the total gap. */
+   leaf has a line of its own, in the standard listing's order, with its name at the right. */
 
 #include "quartree.h"
 #include <stdio.h>
 
 enum { MOST = QUARTREE_MOST_LEAVES, MARGIN = 28, LINE = 28, WIDTH = 420, LETTER = 10 };
 
-static uint8_t sheet[QUARTREE_SHEET_MOST_BYTES + 1];
-static uint32_t table[QUARTREE_TABLE_CELLS(MOST)];
-static uint16_t listing[QUARTREE_LISTING_NUMBERS(MOST)];
+static uint8_t sheet[QUARTREE_SHEET_MOST_BYTES + 1], listing[QUARTREE_LISTING_BYTES(MOST)];
 
 /* Of every leaf and node: the leaves under it, the first of their lines, the longest way down to a leaf, its place. */
 static int leaves[2 * MOST], line[2 * MOST], height[2 * MOST], x[2 * MOST], y[2 * MOST];
 
-/* A child of a row, 0 for the first or 1 for the second. */
-static size_t child(size_t row, size_t which) { return listing[2 * row + which]; }
+/* A child of a row, 0 for the first or 1 for the second: the listing is lent as bytes, low byte first. */
+static size_t child(size_t row, size_t which)
+{
+    const uint8_t *number = listing + 4 * row + 2 * which;
+    return number[0] + 256u * number[1];
+}
 
 static int larger(int a, int b) { return a > b ? a : b; }
 
@@ -57,39 +58,32 @@ static void draw_node(size_t node, const size_t *children, size_t count)
 int main(void)
 {
     size_t len = fread(sheet, 1, sizeof sheet, stdin);
-    uint64_t reply = quartree_sheet_table(sheet, len, table, QUARTREE_TABLE_CELLS(MOST));
-    if (QUARTREE_NUMBER(reply) != QUARTREE_ACCEPTED) {
-        fprintf(stderr, "refused %u: %s\n", QUARTREE_NUMBER(reply), quartree_refusal_text(QUARTREE_NUMBER(reply)));
+    uint32_t number = quartree_rebuild_sheet(sheet, len, listing, sizeof listing);
+    if (number != QUARTREE_ACCEPTED) {
+        fprintf(stderr, "refused %u: %s\n", (unsigned)number, quartree_refusal_text(number));
         return 2;
     }
-    size_t n = (size_t)QUARTREE_FIGURE(reply), longest = 0;
-    /* A sheet's table is never refused: it is rebuilt, or guessed if no tree has it. */
-    reply = quartree_guess(n, QUARTREE_COUNTS, table, QUARTREE_TABLE_CELLS(n), listing, QUARTREE_LISTING_NUMBERS(n));
-    int guessed = QUARTREE_GUESS_ORIGIN(reply) == QUARTREE_GUESSED;
+    size_t n = sheet[len - 8], longest = 0;
     for (size_t leaf = 0; leaf < n; leaf++) {
-        size_t name_len = QUARTREE_NAME_LENGTH(quartree_sheet_name(sheet, len, leaf));
+        size_t name_len = (size_t)QUARTREE_FIGURE_Y(quartree_sheet_name(sheet, len, leaf));
         longest = name_len > longest ? name_len : longest;
     }
 
     place(n);
-    int wide = 2 * MARGIN + WIDTH + LETTER * (int)(longest + 1), high = 2 * MARGIN + LINE * ((int)n - 1 + guessed);
+    int wide = 2 * MARGIN + WIDTH + LETTER * (int)(longest + 1), high = 2 * MARGIN + LINE * (int)(n - 1);
     printf("<svg xmlns=\"http://www.w3.org/2000/svg\" viewBox=\"0 0 %d %d\" width=\"%d\" height=\"%d\">\n", wide, high,
            wide, high);
     printf("<rect width=\"100%%\" height=\"100%%\" fill=\"white\"/>\n"
-           "<g fill=\"none\" stroke=\"#2a6f97\" stroke-width=\"2\" stroke-linecap=\"round\"%s>\n",
-           guessed ? " stroke-dasharray=\"5 5\"" : "");
+           "<g fill=\"none\" stroke=\"#2a6f97\" stroke-width=\"2\" stroke-linecap=\"round\">\n");
     for (size_t row = 0; row + 1 < n - 2; row++)
         draw_node(n + row, (size_t[]){child(row, 0), child(row, 1)}, 2);
     draw_node(2 * n - 3, (size_t[]){0, child(n - 3, 0), child(n - 3, 1)}, 3);
     printf("</g>\n<g font-family=\"sans-serif\" font-size=\"16\" fill=\"#1b1b1b\">\n");
     for (size_t leaf = 0; leaf < n; leaf++) {
         uint64_t name = quartree_sheet_name(sheet, len, leaf); /* its bytes mean nothing else in SVG */
-        printf("<text x=\"%d\" y=\"%d\">%.*s</text>\n", x[leaf] + LETTER, y[leaf] + 5, (int)QUARTREE_NAME_LENGTH(name),
-               (const char *)sheet + QUARTREE_NAME_OFFSET(name));
+        printf("<text x=\"%d\" y=\"%d\">%.*s</text>\n", x[leaf] + LETTER, y[leaf] + 5, (int)QUARTREE_FIGURE_Y(name),
+               (const char *)sheet + QUARTREE_FIGURE_X(name));
     }
-    if (guessed)
-        printf("<text x=\"%d\" y=\"%d\">guess, total gap %llu</text>\n", MARGIN, MARGIN + LINE * (int)n + 5,
-               (unsigned long long)QUARTREE_GUESS_TOTAL(reply));
     printf("</g>\n</svg>\n");
     return 0;
 }

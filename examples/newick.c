@@ -1,10 +1,7 @@
 /* Writes the tree of a strain sheet as Newick text, and reads such a text with the names of the sheet.
 
        newick SHEET          prints the text of the sheet's tree, and reads it again
-       newick SHEET TEXT     says whether the text draws the sheet's tree
-
-   Where no tree has the sheet's table, the tree is a guess. The last line says so, with the total gap: Newick text has
-   no place for it. */
+       newick SHEET TEXT     says whether the text draws the sheet's tree */
 
 #include "quartree.h"
 #include "sheet_file.h"
@@ -45,20 +42,16 @@ int main(int argc, char **argv)
     size_t sheet_len = read_sheet(argv[1], sheet);
     size_t n = (size_t)accepted(quartree_sheet_table(sheet, sheet_len, table, CELLS));
     size_t numbers = QUARTREE_LISTING_NUMBERS(n);
-    uint64_t tree = quartree_guess(n, QUARTREE_COUNTS, table, QUARTREE_TABLE_CELLS(n), listing, numbers);
-    accepted(tree);
+    accepted(quartree_rebuild(n, QUARTREE_COUNTS, table, QUARTREE_TABLE_CELLS(n), listing, numbers));
 
     if (argc == 3) {
         int same = draws(sheet_len, (const uint8_t *)argv[2], strlen(argv[2]), numbers);
         printf("%s\n", same ? "the sheet's tree" : "another tree");
-    } else {
-        /* No 0 byte ends the text: the reply has its length. */
-        size_t len = (size_t)accepted(quartree_export(sheet, sheet_len, listing, numbers, text, sizeof text));
-        printf("%.*s\n", (int)len, (const char *)text);
-        printf("read again: %s\n", draws(sheet_len, text, len, numbers) ? "the same tree" : "another tree");
+        return 0;
     }
-    if (QUARTREE_GUESS_ORIGIN(tree) == QUARTREE_GUESSED)
-        printf("the sheet's tree is a guess, with a total gap of %llu\n",
-               (unsigned long long)QUARTREE_GUESS_TOTAL(tree));
+    /* No 0 byte ends the text: the reply has its length. */
+    size_t len = (size_t)accepted(quartree_export(sheet, sheet_len, listing, numbers, text, sizeof text));
+    printf("%.*s\n", (int)len, (const char *)text);
+    printf("read again: %s\n", draws(sheet_len, text, len, numbers) ? "the same tree" : "another tree");
     return 0;
 }

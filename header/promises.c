@@ -1611,8 +1611,7 @@ static void try_records(void)
           "import", "tells another origin", 0);
 }
 
-/* Each refusal's number has a text of its own, and numbers of no refusal have another. Each origin's number has a word
-   of its own, and every other number has that of listed, as the calls take it. */
+/* Each number has a text of its own, and numbers of no refusal have another; so it is with origins. */
 static void try_texts(void)
 {
     const char *none = quartree_refusal_text(REFUSALS + 1);
@@ -1625,12 +1624,15 @@ static void try_texts(void)
     claim(none[0] != '\0' && strcmp(none, quartree_refusal_text(255)) == 0
               && strcmp(none, quartree_refusal_text((unsigned)-1)) == 0,
           "refusal_text", "has no text for other numbers", 0);
-    for (uint32_t number = 0; number < ORIGINS; number++)
-        claim(strcmp(quartree_origin_text(number), origin_words[number]) == 0, "origin_text", "has another text", 0);
-    static const uint32_t others[] = {ORIGINS, 255, 256, 65536, UINT32_MAX};
-    for (size_t k = 0; k < sizeof others / sizeof *others; k++)
-        claim(strcmp(quartree_origin_text(others[k]), origin_words[QUARTREE_LISTED]) == 0, "origin_text",
-              "does not say listed of a number above 4", 0);
+    none = quartree_origin_text(ORIGINS);
+    for (uint32_t number = 0; number < ORIGINS; number++) {
+        const char *due = origin_words[number];
+        claim(strcmp(quartree_origin_text(number), due) == 0, "origin_text", "has another text", 0);
+        claim(strcmp(none, due) != 0, "origin_text", "has the text of no origin", 0);
+    }
+    claim(none[0] != '\0' && strcmp(none, quartree_origin_text(256)) == 0
+              && strcmp(none, quartree_origin_text(UINT32_MAX)) == 0,
+          "origin_text", "has no text for other numbers", 0);
 }
 
 /* The version is made of its parts, and is the archive's. */

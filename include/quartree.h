@@ -28,7 +28,7 @@
    rebuild its tree                                  quartree_rebuild_sheet
    write a tree as Newick text, read one             quartree_export, quartree_import
 
-   What the calls promise is proved, for every input. A name in quotes, as 'one-table', is a law; docs/LAWS.md of the
+   What the calls promise is proved, for every input. A name in quotes, as 'one_table', is a law; docs/LAWS.md of the
    sources says where it stands. */
 
 #ifndef QUARTREE_H
@@ -45,9 +45,8 @@
     (QUARTREE_VERSION_MAJOR * 65536 + QUARTREE_VERSION_MINOR * 256 + QUARTREE_VERSION_PATCH)
 
 /* From 0.9 to 0.10: quartree_version is new, and so are QUARTREE_VERSION_NUMBER and the macros QUARTREE_GUESS_TOTAL,
-   QUARTREE_GUESS_ORIGIN, QUARTREE_NAME_OFFSET and QUARTREE_NAME_LENGTH. quartree_origin_text says listed of a number
-   above 4, as the calls do. A compiler that knows how warns where a reply is not used or a null pointer is lent. Every
-   call answers as before. CHANGELOG.md of the sources has the earlier versions. */
+   QUARTREE_GUESS_ORIGIN, QUARTREE_NAME_OFFSET and QUARTREE_NAME_LENGTH. A compiler that knows how warns where a reply
+   is not used or a null pointer is lent. Every call answers as before. CHANGELOG.md of the sources has the earlier versions. */
 
 /* ---- Words ----------------------------------------------------------------------------------------------------------
 
@@ -75,7 +74,7 @@
 
    Table. n * n cells, row by row: cell (i,j) is at place n*i + j. Cell (i,j) of a tree's table is the number of
    unordered pairs p,q of other leaves with i,j paired against p,q. Its diagonal is 0 and its largest cell is at most
-   7,875. Different trees on the same leaves have different tables ('one-table'). A table is lent as one of counts or
+   7,875. Different trees on the same leaves have different tables ('one_table'). A table is lent as one of counts or
    as a poll's, which counts sixths; the caller says which. A tree has a table of counts when its own table equals it in
    every cell, and a poll's table when six times its own table does.
 
@@ -85,11 +84,11 @@
    B's. After n-1 merges one subtree holds all leaves; the last merge joins two subtrees by an edge and makes no node.
 
    Guess. The tree that n-1 merges leave when each takes the two different subtrees with the smallest mean gap,
-   eligible or not ('nearest-is'). They start from the single leaves, with every m at 0, and m grows as above. The mean
+   eligible or not ('nearest_is'). They start from the single leaves, with every m at 0, and m grows as above. The mean
    gap of A and B is taken over their a*b cells: the sum, over every i in A and j in B, of the distance between cell
    (i,j) and the value that an eligible pair has there, divided by a*b. Means are compared exactly, as fractions. Of
    pairs with equal means the first in row order is taken, where a pair stands as the least leaves of A and B, the
-   smaller first. Where a tree has the table, the guess is that tree ('guess-exact'). Where none has, a guess is a
+   smaller first. Where a tree has the table, the guess is that tree ('guess_exact'). Where none has, a guess is a
    proposal: greedy merging, with no step taken back and no other tree tried. docs/GUESS.md of the sources has how
    often it finds the tree behind a rough table.
 
@@ -98,12 +97,12 @@
    when the tree has the table. A guess need not be the tree with the smallest total gap.
 
    Graft. Leaf n is put on an edge: a new node divides the edge in two, and an edge joins leaf n to that node. The tree
-   has n+1 leaves then, and any four of the old ones are paired as before ('grafted-paired').
+   has n+1 leaves then, and any four of the old ones are paired as before ('grafted_paired').
 
    Prune. A leaf is taken away, and so is the node that it was joined to, whose two other edges become one. Higher
    leaves move down by one, so the tree has the leaves 0 to n-2 then; names that a caller keeps by leaf move down with
    them. Leaf 0 may be pruned: what was leaf 1 is leaf 0 then, and the tree hangs from it. Any four leaves that stay are
-   paired as before ('pruned-paired').
+   paired as before ('pruned_paired').
 
    Poll. One record a quartet: four leaves a < b < c < d and a pairing code. Codes 0, 1 and 2 are the pairings of
    a, b, c, d. The others are ties: 3 allows all three pairings, 4 allows 0 and 1, 5 allows 0 and 2, and 6 allows 1 and
@@ -111,8 +110,8 @@
 
    A poll's table. Each record has six sixths. Codes 0, 1 and 2 give 6 to their pairing; 3 gives 2 to each pairing; 4, 5
    and 6 give 3 to each of their two. What a pairing is given is added to the cells of its two pairs and to their mirror
-   cells. So the cells above the diagonal total 12 times the number of records ('poll-total'). The poll of a tree's own
-   pairings has six times the tree's table ('own-poll'), and is rebuilt as that tree ('own-poll-rebuilt').
+   cells. So the cells above the diagonal total 12 times the number of records ('poll_total'). The poll of a tree's own
+   pairings has six times the tree's table ('own_poll'), and is rebuilt as that tree ('own_poll_rebuilt').
 
    Sheet. A byte file: names, cells, trailer. A name is a length byte 1 to 40, then that many letters, digits, full
    stops or hyphens (ASCII); the names are those of leaves 0, 1, 2 and so on, no two equal. The cells are those above
@@ -283,36 +282,38 @@ static inline const char *quartree_refusal_text(unsigned number)
 #define QUARTREE_GUESSED 3
 #define QUARTREE_GRAFTED 4
 
-/* A word for each origin's number; a number above 4 is listed, as for the calls. */
+/* A word for each origin's number. */
 static inline const char *quartree_origin_text(uint32_t origin)
 {
     switch (origin) {
     case QUARTREE_REBUILT:
         return "rebuilt";
+    case QUARTREE_LISTED:
+        return "listed";
     case QUARTREE_IMPORTED:
         return "imported";
     case QUARTREE_GUESSED:
         return "guessed";
     case QUARTREE_GRAFTED:
         return "grafted";
-    default: /* QUARTREE_LISTED */
-        return "listed";
+    default:
+        return "no origin has this number";
     }
 }
 
 /* What a lab may file and rely on:
 
    - A record that the part's calls made, each handed what the call before it made, and that is marked rebuilt: its tree
-     has the table that quartree_rebuild, quartree_rebuild_guided or quartree_guess was given ('made-rebuilt'). Listed
+     has the table that quartree_rebuild, quartree_rebuild_guided or quartree_guess was given ('made_rebuilt'). Listed
      and imported promise nothing of a table.
-   - Guessed is told exactly where no tree has the table given ('guessed-exactly'). The tree is a proposal. Its total
+   - Guessed is told exactly where no tree has the table given ('guessed_exactly'). The tree is a proposal. Its total
      gap is told beside the origin, and quartree_gap tells the gap of each pair; no record keeps them.
    - Grafted promises nothing of the table that an older record was rebuilt from; but the table that quartree_graft or
      quartree_prune writes beside the tree is the tree's own.
-   - quartree_restandardise keeps the tree and the origin ('restandardise-same').
+   - quartree_restandardise keeps the tree and the origin ('restandardise_same').
    - A listing of the caller's own is filed as listed, once quartree_check accepts it.
    - The tree that quartree_rebuild_sheet writes may be filed as rebuilt, since it has the sheet's table; that call has
-     no place to say so ('sheet-bytes-made').
+     no place to say so ('sheet_bytes_made').
    - A record whose number somebody else wrote promises nothing of a table. No call refuses it for its number, and none
      traps on it. */
 
@@ -405,7 +406,7 @@ uint64_t quartree_pairing(size_t n, const uint16_t *listing, size_t len, const u
    QUARTREE_SET_BYTES. No leaf count goes with a set: all of its bits count, also those at and above a tree's n.
 
    The calls take a word at a time: leaf k is bit k mod 64 of word k div 64. Each result is the one got byte by byte
-   ('join-by-bytes', 'intersect-by-bytes', 'equal-by-bytes'). Sets are lent as bytes, so neither their address nor the
+   ('join_by_bytes', 'intersect_by_bytes', 'equal_by_bytes'). Sets are lent as bytes, so neither their address nor the
    machine's order of bytes matters.
 
    As with every call, the inputs a and b may be one and the same, and the output may overlap neither: no set is joined
@@ -466,7 +467,7 @@ uint64_t quartree_rebuild(size_t n, uint32_t poll, const uint32_t *table, size_t
    Refused, in this order: 1, 2, 3, 4, 5, as quartree_rebuild is, and never by 6.
    Accepted: the first QUARTREE_LISTING_NUMBERS(n) numbers of out are the standard listing of a tree.
    QUARTREE_GUESS_TOTAL(reply) is its total gap from the table, and QUARTREE_GUESS_ORIGIN(reply) its origin
-   ('reply-is'). Where a tree has the table, it is that tree, rebuilt, with the total gap 0 ('rebuilt-has'): listing and
+   ('reply_is'). Where a tree has the table, it is that tree, rebuilt, with the total gap 0 ('rebuilt_has'): listing and
    reply are those of quartree_rebuild. Where none has, which is where quartree_rebuild says 6, it is the table's guess,
    marked guessed, with a total gap above 0. A guess is a greedy estimate, and a weak one where many quartets are wrong.
    The call takes QUARTREE_GUESS_STACK_BYTES of stack at most. */
@@ -493,9 +494,9 @@ uint64_t quartree_rebuild_guided(size_t n, uint32_t poll, const uint32_t *table,
    the tree's own, since it counts sixths, nor is the rough table that a tree was guessed from. The caller has
    quartree_table count the table of such a tree afresh first.
 
-   Pruning the leaf just grafted gives back the old standard listing and the old table ('pruned-grafted'); the origin
-   stays grafted. Grafts on different edges are different trees ('grafted-once'), and every tree on n+1 leaves is a
-   graft of what pruning its leaf n leaves ('graft-of-prune').
+   Pruning the leaf just grafted gives back the old standard listing and the old table ('pruned_grafted'); the origin
+   stays grafted. Grafts on different edges are different trees ('grafted_once'), and every tree on n+1 leaves is a
+   graft of what pruning its leaf n leaves ('graft_of_prune').
 
    A caller may look before grafting. A look is lent a new table, too, one of n+1 leaves, and tells the total gap that
    the grafted tree would have from it. The new table's length, new_cells, has to be QUARTREE_TABLE_CELLS(n + 1), and
@@ -503,7 +504,7 @@ uint64_t quartree_rebuild_guided(size_t n, uint32_t poll, const uint32_t *table,
    the tree nor a table moves. n is 3 to 127, or 3 to 31 if the new table is a poll's; else 1.
 
    Once the sizes are right, quartree_look is refused like quartree_graft, with the same number and figure, and never by
-   3 ('look-refused-with-graft'). The new table is judged last, by 4 and 5. So 4 or 5 does not say which table it speaks
+   3 ('look_refused_with_graft'). The new table is judged last, by 4 and 5. So 4 or 5 does not say which table it speaks
    of: the table kept is judged by 4 and 5 first, then 20, then the new table. */
 
 /* Grafts leaf n on an edge of a listing's tree. Since 0.7.
@@ -520,8 +521,8 @@ uint64_t quartree_graft(size_t n, const uint16_t *listing, size_t len, const uin
    QUARTREE_EDGES(n), and the table kept is the tree's own; else 20.
    Accepted: the figure is the total gap. It is below 2^45, and so told whole. It equals what comes of grafting a copy
    by quartree_graft, and adding up the sizes of what quartree_gap writes for it and the new table, over all i < j
-   ('look-is-graft-and-gap'); both are accepted wherever this call is, if they have room ('graft-and-gap-accepted'). It
-   is 0 exactly where the grafted tree has the new table ('look-zero'), and so at one edge at most ('look-zero-once').
+   ('look_is_graft_and_gap'); both are accepted wherever this call is, if they have room ('graft_and_gap_accepted'). It
+   is 0 exactly where the grafted tree has the new table ('look_zero'), and so at one edge at most ('look_zero_once').
    There is no output. */
 uint64_t quartree_look(size_t n, uint32_t poll, const uint16_t *listing, size_t len, const uint32_t *table,
                        size_t cells, size_t edge, const uint32_t *new_table, size_t new_cells) QUARTREE_CALL;
@@ -530,7 +531,7 @@ uint64_t quartree_look(size_t n, uint32_t poll, const uint16_t *listing, size_t 
    Refused, in this order: 1, 2 (any input), 3, 7, 8, 4, 5 (the table kept), 20, 4, 5 (the new table). The table kept is
    the tree's own; else 20.
    Accepted: the first QUARTREE_EDGES(n) numbers of totals are the total gaps for edges 1, 2, 3 and so on:
-   totals[edge - 1] is what quartree_look tells of that edge ('look-all-is-look'). At most one of them is 0. */
+   totals[edge - 1] is what quartree_look tells of that edge ('look_all_is_look'). At most one of them is 0. */
 uint64_t quartree_look_all(size_t n, uint32_t poll, const uint16_t *listing, size_t len, const uint32_t *table,
                            size_t cells, const uint32_t *new_table, size_t new_cells, uint64_t *totals, size_t room)
     QUARTREE_CALL;

@@ -1,6 +1,6 @@
 -- What is kept stays kept when a part is joined, a bracket opened or closed: the arrays hold the lists that the laws of
 -- reading are about, and a store in an array is a step of its list. One lemma for each way out of a function.
-use mathlib.Core.Path.{◌≡◌, refl, ap, sym, ◌∙◌}
+use mathlib.Core.Path.{◌≡◌, refl, ap, sym, subst, ◌∙◌}
 use mathlib.Core.Logic.{◌≢◌}
 use mathlib.Core.Bool.{Bool, true, false, cond, and-false}
 use mathlib.Core.List.{List, [], ◌∷◌}
@@ -105,7 +105,7 @@ first_built {known} {n} {s} {d} {K} {numbers} {rows} {chain} {seen} z low B =
       keeps =
           keeps_first known n z s r.1 K.last K.rows (rows_made K rows) (chain_kept K chain) seen d r.0
           (keeps_split z B);
-      opens_held = rw (← r.3) put;
+      opens_held = subst (λ i. Piled (set numbers i K.last) (K.last ∷ r.1)) r.3 put;
     }
 
 -- one more part
@@ -139,7 +139,7 @@ module _ {known : List (List ℕ)} {n : ℕ} {p : Parts} {s : List Open} {d : Dr
       let put = piled_more numbers r.1 joined.number (omega (arith, r.3)) (held_split z B).1 in
       record {
         of_opens = joined.number ∷ r.1;
-        opens_held = rw (← r.3) put;
+        opens_held = subst (λ i. Piled (set numbers i joined.number) (joined.number ∷ r.1)) r.3 put;
         keeps = rw (joins_rows F j, joins_chain F j, j.number_is, j.count_is, number_here z B) k;
       }
 
@@ -290,7 +290,10 @@ module _ {known : List (List ℕ)} {n : ℕ} {o : Open} {s : List Open} {d : Dra
         let put = piled_more parts (all_ways s) (get_or parts (depth - 1) 0 + 1)
         (omega (arith, here, A.parts_long)) before in
         let same : get_or parts (depth - 1) 0 + 1 ≡ ways (with_part o d) = rw (ways_here t) (sym (ways_with_part o d)) in
-        (rw (here, same) (rw (here, same) at put.0), rw here at put.1)
+        let here_put =
+            subst (λ i. Piled (set parts i (get_or parts (depth - 1) 0 + 1))
+            ((get_or parts (depth - 1) 0 + 1) ∷ all_ways s)) here put in
+        subst (λ w. Piled parts' (w ∷ all_ways s)) same here_put
 
     pub comma_unnamed :
         K.named ≡ false
@@ -409,7 +412,7 @@ opened {known} {n} {s} {K} {parts} {numbers} {rows} {chain} {seen} z depth low d
   ways_are = λ t.
       let here : length (all_ways s) ≡ depth = length-map s open_ways ∙ sym deep in
       let put = piled_more parts (all_ways s) 0 (omega (arith, here, A.parts_long)) (A.ways_are t) in
-      (rw here (rw here at put.0), rw here at put.1);
+      subst (λ i. Piled (set parts i 0) (0 ∷ all_ways s)) here put;
   names = rw (names_opening s) A.names;
   built = λ t u. wider (A.built t u);
 }

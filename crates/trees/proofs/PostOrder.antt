@@ -1,7 +1,7 @@
 -- Post-order in plain words: the nodes of a subtree, each after the nodes of its first child and then of its second.
 -- The rows of `post_order` are those of these nodes, one after the other: a row names the two children of its node, a
 -- leaf by its own number, and a node by the first node's number plus its place among the nodes.
-use mathlib.Core.Path.{◌≡◌, refl, sym, ◌∙◌}
+use mathlib.Core.Path.{◌≡◌, refl, sym, subst, ◌∙◌}
 use mathlib.Core.Logic.{inl, inr, ◌≢◌}
 use mathlib.Core.Bool.{true, false}
 use mathlib.Core.List.{List, [], ◌∷◌, ◌++◌}
@@ -154,9 +154,9 @@ module _ (A B : Tree) where
 -- each is a subtree
 pub nodes_in : (T : Tree) (k : ℕ) → k < length (nodes T) → In (get_or (nodes T) k (leaf 0)) T
 nodes_in (leaf i) k l = absurd (unfold nodes in omega arith)
-nodes_in (node A B) k l = elim (place A B k l) [
-  | first j h ↦ rw (in_first A B j h) (inr (inl (nodes_in A j h)))
-  | second j h ↦ rw (in_second A B j h) (inr (inr (nodes_in B j h)))
+nodes_in (node A B) k l = elim (place A B k l) as (λ i _. In (here A B i) (node A B)) [
+  | first j h ↦ subst (λ X. In X (node A B)) (sym (in_first A B j h)) (inr (inl (nodes_in A j h)))
+  | second j h ↦ subst (λ X. In X (node A B)) (sym (in_second A B j h)) (inr (inr (nodes_in B j h)))
   | last ↦ rw (itself A B) (inl refl)
 ]
 
@@ -164,7 +164,7 @@ nodes_in (node A B) k l = elim (place A B k l) [
 pub nodes_are :
     (T : Tree) (k : ℕ) → k < length (nodes T) → (A : Tree) × (B : Tree) × (get_or (nodes T) k (leaf 0) ≡ node A B)
 nodes_are (leaf i) k l = absurd (unfold nodes in omega arith)
-nodes_are (node A B) k l = elim (place A B k l) [
+nodes_are (node A B) k l = elim (place A B k l) as (λ i _. (C : Tree) × (D : Tree) × (here A B i ≡ node C D)) [
   | first j h ↦ rw (in_first A B j h) (nodes_are A j h)
   | second j h ↦ rw (in_second A B j h) (nodes_are B j h)
   | last ↦ (A, B, itself A B)
@@ -243,21 +243,33 @@ pub nodes_read :
     (T : Tree) (f : ℕ → Tree) (r : ℕ) → Planted f r T → (k : ℕ) → k < length (nodes T)
     → with_rows f r (post_order T r) (r + k) ≡ get_or (nodes T) k (leaf 0)
 nodes_read (leaf x) f r h k l = absurd (unfold nodes in omega arith)
-nodes_read (node A B) f r h k l = rw (with_rows_node A B r f (r + k)) (elim (place A B k l) [
+nodes_read (node A B) f r h k l = elim (place A B k l) as (λ i _. post_order_row i ≡ here A B i) [
   | first j g ↦
       let early : r + j ≢ r'' A B r = omega (arith, many_a, many_b, size_pos A, size_pos B) in
       let low : r + j < r' A B r = omega (arith, many_a, size_pos A) in
-      rw (ne_eqb (r + j) (r'' A B r) early, rb.1 (r + j) low, in_first A B j g) (nodes_read A f r la j g)
+      rw (with_rows_node A B r f (r + j), ne_eqb (r + j) (r'' A B r) early, rb.1 (r + j) low, in_first A B j g)
+      (nodes_read A f r la j g)
   | second j g ↦
       let early : r + (a A B + j) ≢ r'' A B r = omega (arith, many_a, many_b, size_pos A, size_pos B) in
       let there : r + (a A B + j) ≡ r' A B r + j = omega (arith, many_a, size_pos A) in
-      rw (ne_eqb (r + (a A B + j)) (r'' A B r) early, there, in_second A B j g)
+      rw (with_rows_node A B r f (r + (a A B + j)), ne_eqb (r + (a A B + j)) (r'' A B r) early, there, in_second A B j g)
       (nodes_read B after_a (r' A B r) lb j g)
   | last ↦
       let there : r + (a A B + b A B) ≡ r'' A B r = omega (arith, many_a, many_b, size_pos A, size_pos B) in
-      rw (there, eqb_same (r'' A B r), rb.0, rb.1 (number_in A r) (number_lt A r f la), ra.0) (sym (itself A B))
-])
+      rw (
+        with_rows_node A B r f (r + (a A B + b A B)),
+        there,
+        eqb_same (r'' A B r),
+        rb.0,
+        rb.1 (number_in A r) (number_lt A r f la),
+        ra.0,
+      )
+      (sym (itself A B))
+]
   where
+    post_order_row : ℕ → Tree
+    post_order_row i = with_rows f r (post_order (node A B) r) (r + i)
+
     many_a : length (nodes A) ≡ size A - 1
     many_a = nodes_many A
 

@@ -37,7 +37,10 @@ pub returns : goal.returns
 returns c =
     let l = c.loop-i in
     let e : l.i ≡ c.args.n = omega arith in
-    (block_made c.requires.0.few e l.invariant.1, block_made c.requires.0.few e l.invariant.2)
+    record {
+      as_is = block_made c.requires.0.few e l.invariant.1;
+      larger = block_made c.requires.0.few e l.invariant.2;
+    }
 
 pub loop-i-init : goal.loop-i-init
 loop-i-init c = (omega arith, rows_begun, rows_begun)

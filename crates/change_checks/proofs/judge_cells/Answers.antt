@@ -9,7 +9,7 @@ pub returns-then-fits : goal.returns-then-fits
 returns-then-fits c =
     let a = c.args in
     fit_told a.there a.n a.table.now (tree_of a.n a.listing.now) c.requires.0 c.requires.2
-    (sym c.fits2.ensures ∙ c.if-fits.true)
+    (sym c.fits.ensures ∙ c.if-fits.true)
 
 pub returns-in_default : goal.returns-in_default
 returns-in_default c =
@@ -21,4 +21,4 @@ pub returns : goal.returns
 returns c =
     let a = c.args in
     unfit_told a.there a.n a.table.now (tree_of a.n a.listing.now) c.requires.0 c.requires.2
-    c.judge-cells.ensures (sym c.fits2.ensures ∙ c.if-fits.false) c.in-Done.is
+    c.judge-cells.ensures (sym c.fits.ensures ∙ c.if-fits.false) c.in-Done.is

@@ -6,7 +6,7 @@ use Rattle.edge_weights.proofs.block.Goals as goal
 pub returns-then-columns-rows : goal.returns-then-columns-rows
 returns-then-columns-rows c =
     let p = c.requires in
-    let e = c.add_block.ensures in (
-      (e.0.0 ∙ block_gap_turn _ _ _ _ _ _ _ p.3 p.2, e.0.1),
-      (e.1.0 ∙ block_gap_turn _ _ _ _ _ _ _ p.3 p.2, e.1.1),
-    )
+    let e = c.add_block.ensures in record {
+      as_is = (e.as_is.0 ∙ block_gap_turn _ _ _ _ _ _ _ p.3 p.2, e.as_is.1);
+      larger = (e.larger.0 ∙ block_gap_turn _ _ _ _ _ _ _ p.3 p.2, e.larger.1);
+    }

@@ -99,7 +99,7 @@ pub weigh_child-first-requires : goal.weigh_child-first-requires
 weigh_child-first-requires c =
     let p = c.requires in
     let between = c.block-between.ensures in
-    (tables_fit p.0, own_is_table p.0, p.0.is_table, both_fit (goal.at.weigh_child-first-requires c).After-index_of_u32-b, first_row (goal.at.weigh_child-first-requires c).After-index_of_u32-b, between.0.1, between.1.1)
+    (tables_fit p.0, own_is_table p.0, p.0.is_table, both_fit (goal.at.weigh_child-first-requires c).After-index_of_u32-b, first_row (goal.at.weigh_child-first-requires c).After-index_of_u32-b, between.as_is.1, between.larger.1)
 
 pub weigh_child-second-requires : goal.weigh_child-second-requires
 weigh_child-second-requires c =
@@ -110,8 +110,8 @@ weigh_child-second-requires c =
       p.0.is_table,
       omega (arith, both_fit (goal.at.weigh_child-second-requires c).After-index_of_u32-b),
       second-row (goal.at.weigh_child-second-requires c).After-index_of_u32-b,
-      between.0.1,
-      between.1.1,
+      between.as_is.1,
+      between.larger.1,
     )
 
 pub returns : goal.returns
@@ -123,19 +123,23 @@ returns c =
     let b = second-label (goal.at.returns c).After-index_of_u32-b in
     let classified = rw (a, b) at c.classify-classes.ensures in
     let block = c.block-between.ensures in
-    let larger = rw (own, other) at block.1.0 in
+    let larger = rw (own, other) at block.larger.0 in
     let first = rw (own, a) at c.weigh_child-first.ensures in
     let second = rw (other, b) at c.weigh_child-second.ensures in
     record {
-      first = weighed_first p.0 p.2 p.1 _ classified block.0.0 larger first;
-      second = weighed_second p.0 p.2 p.1 _ classified block.0.0 larger second;
+      first = weighed_first p.0 p.2 p.1 _ classified block.as_is.0 larger first;
+      second = weighed_second p.0 p.2 p.1 _ classified block.as_is.0 larger second;
     }
 
 pub offset_bounds-firsts-i : goal.offset_bounds-firsts-i
-offset_bounds-firsts-i c = omega (arith, first-place c)
+offset_bounds-firsts-i c =
+    let p = c.requires in
+    omega (arith, (the_row (goal.at.offset_bounds-firsts-i c).After-row_at-r).first_before, p.0.count, p.2)
 
 pub offset_bounds-firsts-j : goal.offset_bounds-firsts-j
-offset_bounds-firsts-j c = omega (arith, second-place c)
+offset_bounds-firsts-j c =
+    let p = c.requires in
+    omega (arith, (the_row (goal.at.offset_bounds-firsts-j c).After-row_at-r).second_before, p.0.count, p.2)
 
 pub offset_bounds-sizes-a : goal.offset_bounds-sizes-a
 offset_bounds-sizes-a c = omega (arith, (first_is c).below, few c)

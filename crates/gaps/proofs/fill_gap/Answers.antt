@@ -10,13 +10,6 @@ use Rattle.gaps.specs.Operations.{gaps}
 use Rattle.gaps.proofs.fill_gap.Invariants.{gap_at}
 use Rattle.gaps.proofs.fill_gap.Goals as goal
 
--- the call
-abbrev called : tie.After-scale-of invariant-loop decreases-loop → tie.Start invariant-loop decreases-loop
-called c = c.before.before.before
-
-abbrev f : tie.After-scale-of invariant-loop decreases-loop → ℕ → ℤ
-f c = let a = (called c).args in gap_at a.n c.scale_of.result a.cells.now a.listing.now
-
 pub leaf_order-requires : goal.leaf_order-requires
 leaf_order-requires c =
     let p = c.requires in
@@ -24,7 +17,7 @@ leaf_order-requires c =
 
 pub loop-i-init : goal.loop-i-init
 loop-i-init c =
-    (omega arith, refl, rows_none (f (goal.at.loop-i-init c).After-scale_of-scale) _ _)
+    (omega arith, refl, rows_none _ _ _)
 
 pub find_row-base-requires : goal.find_row-base-requires
 find_row-base-requires c =
@@ -36,11 +29,11 @@ pub subtract_row_by_scale-requires : goal.subtract_row_by_scale-requires
 subtract_row_by_scale-requires c =
     let found = c.find_row-base.ensures in
     let i = c.loop-i in
-    let long = rows_room (f (goal.at.subtract_row_by_scale-requires c).After-scale_of-scale) _ (called (goal.at.subtract_row_by_scale-requires c).After-scale_of-scale).args.n i.i i.invariant.0 (called (goal.at.subtract_row_by_scale-requires c).After-scale_of-scale).requires.3 i.invariant.2 in (
-      row_fits _ _ (called (goal.at.subtract_row_by_scale-requires c).After-scale_of-scale).requires.0 (called (goal.at.subtract_row_by_scale-requires c).After-scale_of-scale).requires.2 c.leaf_order.ensures c.loop-i-test.true
-          found.0 found.1 (omega (arith, (called (goal.at.subtract_row_by_scale-requires c).After-scale_of-scale).requires.3, long)),
-      rw c.scale_of-scale.ensures (scale_bounds (called (goal.at.subtract_row_by_scale-requires c).After-scale_of-scale).args.kind).1,
-      (called (goal.at.subtract_row_by_scale-requires c).After-scale_of-scale).requires.1,
+    let long = rows_room _ _ c.args.n i.i i.invariant.0 c.requires.3 i.invariant.2 in (
+      row_fits _ _ c.requires.0 c.requires.2 c.leaf_order.ensures c.loop-i-test.true
+          found.0 found.1 (omega (arith, c.requires.3, long)),
+      rw c.scale_of-scale.ensures (scale_bounds c.args.kind).1,
+      c.requires.1,
     )
 
 pub loop-i-preserved : goal.loop-i-preserved
@@ -48,18 +41,18 @@ loop-i-preserved c =
     let found = c.find_row-base.ensures in
     let i = c.loop-i in
     let cell =
-    cell_is _ _ (called (goal.at.loop-i-preserved c).After-scale_of-scale).requires.0 (called (goal.at.loop-i-preserved c).After-scale_of-scale).requires.2 c.leaf_order.ensures c.loop-i-test.true found.0
+    cell_is _ _ c.requires.0 c.requires.2 c.leaf_order.ensures c.loop-i-test.true found.0
     found.1 in
-    let more = c.subtract_row_by_scale.ensures.cells (f (goal.at.loop-i-preserved c).After-scale_of-scale) _ (λ j lj. rw (cell j lj)) i.invariant.2 in
-    (omega arith, found.1.long, rows_more (f (goal.at.loop-i-preserved c).After-scale_of-scale) _ (called (goal.at.loop-i-preserved c).After-scale_of-scale).args.n i.i more)
+    let more = c.subtract_row_by_scale.ensures.cells _ _ (λ j lj. rw (cell j lj)) i.invariant.2 in
+    (omega arith, found.1.long, rows_more _ _ c.args.n i.i more)
 
 pub shape_of-out : goal.shape_of-out
 shape_of-out c =
     let i = c.loop-i in
-    rows_room (f (goal.at.shape_of-out c).After-scale_of-scale) _ (called (goal.at.shape_of-out c).After-scale_of-scale).args.n i.i i.invariant.0 (called (goal.at.shape_of-out c).After-scale_of-scale).requires.3 i.invariant.2
+    rows_room _ _ c.args.n i.i i.invariant.0 c.requires.3 i.invariant.2
 
 pub returns : goal.returns
 unfolding gaps
 returns c =
     let i = c.loop-i in
-    rw (← c.scale_of-scale.ensures) (rows_all (f (goal.at.returns c).After-scale_of-scale) _ (called (goal.at.returns c).After-scale_of-scale).args.n i.i (omega arith) i.invariant.2)
+    rw (← c.scale_of-scale.ensures) (rows_all _ _ c.args.n i.i (omega arith) i.invariant.2)

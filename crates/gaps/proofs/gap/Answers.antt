@@ -2,6 +2,8 @@
 -- at each cell is written.
 use mathlib.Core.Path.{◌∙◌}
 use Rattle.base.proofs.Lists.{length_tab}
+use Rattle.limits.specs.Limits.{scale_of}
+use Rattle.trees.specs.Listings.{tree_of}
 use Rattle.limits.proofs.TableKinds.{leaf_count_of}
 use Rattle.refusals.proofs.Answers.{call_passed, call_refused, call_done}
 use Rattle.gaps.specs.Operations.{gaps, gap_answer}
@@ -10,7 +12,11 @@ use Rattle.gaps.proofs.gap.Goals as goal
 
 pub returns-in_default : goal.returns-in_default
 unfolding gap_answer
-returns-in_default c = call_refused _ c.judge_gap-judged.ensures _ _ c.in_default.is
+returns-in_default c =
+    let a = c.args in
+    let g = gaps a.n (scale_of a.kind) a.cells.now (tree_of a.n a.listing.now) in
+    let told = call_refused _ c.judge_gap-judged.ensures g a.out.now c.in_default.is in
+    record { answer = told.0; buffer = told.1 }
 
 pub fill_gap-requires : goal.fill_gap-requires
 fill_gap-requires c =
@@ -26,5 +32,8 @@ fill_gap-requires c =
 pub returns : goal.returns
 unfolding gap_answer gaps
 returns c =
-    call_done _ c.judge_gap-judged.ensures _ _ c.in-Done.is
-    (c.fill_gap.ensures ∙ simp length_tab)
+    let a = c.args in
+    let g = gaps a.n (scale_of a.kind) a.cells.now (tree_of a.n a.listing.now) in
+    let told =
+    call_done _ c.judge_gap-judged.ensures g a.out.now c.in-Done.is (c.fill_gap.ensures ∙ simp length_tab) in
+    record { answer = told.0; buffer = told.1 }

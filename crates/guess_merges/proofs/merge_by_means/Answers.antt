@@ -11,86 +11,57 @@ loop-k-init c = (omega arith, omega (arith, c.requires.0.given.leaf_count), c.re
 
 pub choose-pair-requires : goal.choose-pair-requires
 choose-pair-requires c =
-    let turn = c.before in
-    let s = turn.before.before.before in
-    let l = turn.loop in
-    let lk : l.k - 1 < s.args.n - 1 = omega (arith, c.loop-test.true, l.invariant.0) in
-    (search_ready s.requires.0 (l.k - 1) lk l.invariant.2, l.invariant.2.partnered)
+    let l = c.loop-k in
+    let lk : l.k - 1 < c.args.n - 1 = omega (arith, c.loop-k-test.true, l.invariant.0) in
+    (search_ready c.requires.0 (l.k - 1) lk l.invariant.2, l.invariant.2.partnered)
 
 pub put_block-requires : goal.put_block-requires
 put_block-requires c =
-    let tested = c.before.before.before in
-    let turn = tested.before in
-    let s = turn.before.before.before in
-    let l = turn.loop in
-    let lk : l.k - 1 < s.args.n - 1 = omega (arith, tested.loop-test.true, l.invariant.0) in
-    block_ready s.requires.0 (l.k - 1) lk l.invariant.2 c.choose.ensures
+    let l = c.loop-k in
+    let lk : l.k - 1 < c.args.n - 1 = omega (arith, c.loop-k-test.true, l.invariant.0) in
+    block_ready c.requires.0 (l.k - 1) lk l.invariant.2 c.choose-pair.ensures
 
 pub merge-requires : goal.merge-requires
 merge-requires c =
-    let tested = c.before.before.before in
-    let turn = tested.before in
-    let s = turn.before.before.before in
-    let l = turn.loop in
-    let lk : l.k - 1 < s.args.n - 1 = omega (arith, tested.loop-test.true, l.invariant.0) in
-    pair_ready s.requires.0 (l.k - 1) lk l.invariant.2 c.choose.ensures
+    let l = c.loop-k in
+    let lk : l.k - 1 < c.args.n - 1 = omega (arith, c.loop-k-test.true, l.invariant.0) in
+    pair_ready c.requires.0 (l.k - 1) lk l.invariant.2 c.choose-pair.ensures
 
 pub renew-requires : goal.renew-requires
 renew-requires c =
-    let chosen = c.before in
-    let tested = chosen.before.before.before.before.before in
-    let turn = tested.before in
-    let s = turn.before.before.before in
-    let l = turn.loop in
-    let lk : l.k - 1 < s.args.n - 1 = omega (arith, tested.loop-test.true, l.invariant.0) in (
-      s.requires.0.given.is_table,
-      sums_ready s.requires.0 (l.k - 1) lk l.invariant.2 chosen.choose.ensures
-          c.merge.ensures,
+    let l = c.loop-k in
+    let lk : l.k - 1 < c.args.n - 1 = omega (arith, c.loop-k-test.true, l.invariant.0) in (
+      c.requires.0.given.is_table,
+      sums_ready c.requires.0 (l.k - 1) lk l.invariant.2 c.choose-pair.ensures c.merge.ensures,
       l.invariant.2.small,
     )
 
 pub renew_partners-requires : goal.renew_partners-requires
 renew_partners-requires c =
-    let chosen = c.before.before.before.before in
-    let tested = chosen.before.before.before.before.before in
-    let turn = tested.before in
-    let s = turn.before.before.before in
-    let l = turn.loop in
-    let lk : l.k - 1 < s.args.n - 1 = omega (arith, tested.loop-test.true, l.invariant.0) in
-    partners_ready s.requires.0 (l.k - 1) lk l.invariant.2 chosen.choose.ensures c.merge.ensures
-    c.renew.ensures
+    let l = c.loop-k in
+    let lk : l.k - 1 < c.args.n - 1 = omega (arith, c.loop-k-test.true, l.invariant.0) in
+    partners_ready c.requires.0 (l.k - 1) lk l.invariant.2 c.choose-pair.ensures c.merge.ensures c.renew.ensures
 
 pub overflow_add-k : goal.overflow_add-k
-overflow_add-k c =
-    let tested = c.before.before.before.before.before.before.before.before.before in
-    let s = tested.before.before.before.before in
-    omega (arith, tested.loop-test.taken, s.pre.0.given.leaf_count)
+overflow_add-k c = omega (arith, c.loop-k-test.true, c.requires.0.given.leaf_count)
 
 pub loop-k-smaller : goal.loop-k-smaller
-loop-k-smaller c =
-    let tested = c.before.before.before.before.before.before.before.before.before in
-    omega (arith, tested.loop-test.taken)
+loop-k-smaller c = omega (arith, c.loop-k-test.true)
 
 pub loop-k-preserved : goal.loop-k-preserved
 loop-k-preserved c =
-    let chosen = c.before.before.before.before in
-    let tested = chosen.before.before.before.before.before in
-    let turn = tested.before in
-    let s = turn.before.before.before in
-    let l = turn.loop in
-    let lk : l.k - 1 < s.args.n - 1 = omega (arith, tested.loop-test.true, l.invariant.0) in
+    let l = c.loop-k in
+    let lk : l.k - 1 < c.args.n - 1 = omega (arith, c.loop-k-test.true, l.invariant.0) in
     let next : l.k + 1 - 1 ≡ l.k - 1 + 1 = omega (arith, l.invariant.0) in (
       omega arith,
-      omega (arith, tested.loop-test.true),
+      omega (arith, c.loop-k-test.true),
       rw next
-          (merge_made s.requires.0 (l.k - 1) lk l.invariant.2 chosen.choose.ensures c.merge.ensures
-          c.renew.ensures
-          c.put-block.ensures c.renew_partners.ensures),
+          (merge_made c.requires.0 (l.k - 1) lk l.invariant.2 c.choose-pair.ensures c.merge.ensures c.renew.ensures
+          c.put_block.ensures c.renew_partners.ensures),
     )
 
 pub shape_of-own : goal.shape_of-own
-shape_of-own c =
-    c.loop-k.invariant.2.packed.1 ∙ sym c.requires.1.packed.1
+shape_of-own c = c.loop-k.invariant.2.packed.1 ∙ sym c.requires.1.packed.1
 
 pub returns : goal.returns
 returns c =

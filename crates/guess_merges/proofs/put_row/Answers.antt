@@ -1,10 +1,10 @@
 -- `guess_merges::put_row` meets its contract. The loop's invariant: the cells with the leaves passed are written.
 use mathlib.Core.Path.{◌≡◌, ◌∙◌}
-use mathlib.Core.Logic.{inl, inr}
 use Prim.Native.Nat.{◌-◌}
 use native.Mathlib.Omega.{arith}
 use Rattle.guess_merges.proofs.Blocks.{row_start, row_skip, row_turn}
 use Rattle.guess_merges.proofs.put_row.Goals as goal
+use Rattle.guess_merges.proofs.put_row.Goals.{then-label-y, else-label-y}
 
 pub loop-y-init : goal.loop-y-init
 loop-y-init c = (omega arith, row_start)
@@ -31,9 +31,10 @@ loop-y-preserved c =
     let l = c.loop-y in (
       omega arith,
       elim c.if-label-y.branch [
-        | inl w ↦
-            rw w.6 (row_turn l.invariant.1 c.requires.1 (omega arith) c.requires.2 w.0.taken w.3.ensures)
-        | inr w ↦ rw w.1 (row_skip l.invariant.1 w.0.left)
+        | then-label-y w ↦
+            rw w.own-is
+            (row_turn l.invariant.1 c.requires.1 (omega arith) c.requires.2 w.if-label-y.true w.put_cell.ensures)
+        | else-label-y w ↦ rw w.own-is (row_skip l.invariant.1 w.if-label-y.false)
       ],
     )
 

@@ -1,11 +1,11 @@
 -- `guess_merges::put_rows` meets its contract. The loop's invariant: the rows passed are written.
 use mathlib.Core.Path.{◌≡◌, sym, ◌∙◌}
-use mathlib.Core.Logic.{inl, inr}
 use Prim.Native.Nat.{◌-◌, ◌<◌}
 use native.Mathlib.Omega.{arith}
 use Rattle.pair_counts.proofs.Pairs.{P_most}
 use Rattle.guess_merges.proofs.Blocks.{block_start, block_skip, block_turn}
 use Rattle.guess_merges.proofs.put_rows.Goals as goal
+use Rattle.guess_merges.proofs.put_rows.Goals.{then-label-x, else-label-x}
 
 pub loop-x-init : goal.loop-x-init
 loop-x-init c = (omega arith, block_start)
@@ -31,8 +31,9 @@ loop-x-preserved c =
     let l = c.loop-x in (
       omega arith,
       elim c.if-label-x.branch [
-        | inl w ↦ rw w.6 (block_turn l.invariant.1 c.requires.1 (omega arith) w.0.taken w.3.ensures)
-        | inr w ↦ rw w.1 (block_skip l.invariant.1 w.0.left)
+        | then-label-x w ↦
+            rw w.own-is (block_turn l.invariant.1 c.requires.1 (omega arith) w.if-label-x.true w.put_row.ensures)
+        | else-label-x w ↦ rw w.own-is (block_skip l.invariant.1 w.if-label-x.false)
       ],
     )
 

@@ -9,46 +9,42 @@ use Rattle.trees.specs.Listings.{tree_of}
 use Rattle.trees.specs.Gaps.{total_gap}
 use Rattle.merging.specs.Guesses.{guessed}
 use Rattle.guess_trees.proofs.Listings.{listing_keeps, total_is, out_front}
-use Rattle.guess_trees.proofs.guess_tree.Goals.{After-total-gap-arg}
+use Rattle.guess_trees.proofs.guess_tree.Goals.{After-write_listing}
 use Rattle.guess_trees.proofs.guess_tree.Goals as goal
 
 -- the part of the buffer that is handed on is the listing
 part :
-    (c : After-total-gap-arg)
-    → (let a = c.before.before.before.before.before.before.before.args in
-    take (2 * (a.n - 2)) c.before.before.before.write_listing.new.1.1.1.0
-    ≡ (guessed a.n (scale_of a.kind) a.table.now).listing)
+    (c : After-write_listing)
+    → (let a = c.args in
+    take (2 * (a.n - 2)) c.write_listing.new.out ≡ (guessed a.n (scale_of a.kind) a.table.now).listing)
 part c =
-    let s = c.before.before.before.before.before.before.before in
-    let a = s.args in
-    ap (take (2 * (a.n - 2))) c.before.before.before.write_listing.ensures
-    ∙ out_front a.kind a.n a.table.now s.requires.0 s.requires.1 a.out.now s.requires.2
+    let a = c.args in
+    ap (take (2 * (a.n - 2))) c.write_listing.ensures
+    ∙ out_front a.kind a.n a.table.now c.requires.0 c.requires.1 a.out.now c.requires.2
 
 pub overflow_sub-numbers : goal.overflow_sub-numbers
-overflow_sub-numbers c =
-    omega (arith, leaf_count_of c.args.kind c.args.n c.requires.0)
+overflow_sub-numbers c = omega (arith, leaf_count_of c.args.kind c.args.n c.requires.0)
 
 pub slice_bounds-total_gap-end-2 : goal.slice_bounds-total_gap-end-2
 slice_bounds-total_gap-end-2 c =
-    let s = c.before in
-    let keeps = listing_keeps s.args.kind s.args.n s.args.table.now s.requires.0 s.requires.1 in
-    sym (ap length (part (goal.at.slice_bounds-total_gap-end-2 c).aftertotalgaparg) ∙ keeps.numbers)
+    let keeps = listing_keeps c.args.kind c.args.n c.args.table.now c.requires.0 c.requires.1 in
+    sym (ap length (part (goal.at.slice_bounds-total_gap-end-2 c).After-write_listing) ∙ keeps.numbers)
 
 pub total_gap-requires : goal.total_gap-requires
-total_gap-requires c =
-    let s = c.before in (
-      leaf_count_of s.args.kind s.args.n s.requires.0,
-      s.requires.1,
-      rw (part (goal.at.total_gap-requires c).aftertotalgaparg)
-          (listing_keeps s.args.kind s.args.n s.args.table.now s.requires.0 s.requires.1),
-    )
+total_gap-requires c = (
+  leaf_count_of c.args.kind c.args.n c.requires.0,
+  c.requires.1,
+  rw (part (goal.at.total_gap-requires c).After-write_listing)
+      (listing_keeps c.args.kind c.args.n c.args.table.now c.requires.0 c.requires.1),
+)
 
 pub returns : goal.returns
 returns c =
-    let s = c.before in
-    let a = s.args in (
-      c.total_gap.ensures
-          ∙ ap (λ l. total_gap a.n (scale_of a.kind) a.table.now (tree_of a.n l)) (part (goal.at.returns c).aftertotalgaparg)
-          ∙ total_is a.kind a.n a.table.now s.requires.0 s.requires.1,
-      c.write-listing.ensures,
-    )
+    let a = c.args in
+    let listed = part (goal.at.returns c).After-write_listing in
+    record {
+      total = c.total_gap.ensures
+          ∙ ap (λ l. total_gap a.n (scale_of a.kind) a.table.now (tree_of a.n l)) listed
+          ∙ total_is a.kind a.n a.table.now c.requires.0 c.requires.1;
+      buffer = c.write_listing.ensures;
+    }

@@ -24,7 +24,7 @@ slice_bounds-own-end c = bytes_most c.args.n (count (goal.at.slice_bounds-own-en
 
 pub slice_bounds-write_tree_table-end : goal.slice_bounds-write_tree_table-end
 slice_bounds-write_tree_table-end c =
-    sym (length-take-le _ _ (bytes_most c.args.n (count ((goal.at.slice_bounds-write_tree_table-end c).Start))))
+    sym (length-take-le _ _ (bytes_most c.args.n (count (goal.at.slice_bounds-write_tree_table-end c).Start)))
 
 pub write_tree_table-requires : goal.write_tree_table-requires
 write_tree_table-requires c =
@@ -44,5 +44,5 @@ rebuild_checked-requires c =
 
 pub returns : goal.returns
 returns c =
-    c.rebuild_checked.ensures.1
+    c.rebuild_checked.ensures.buffer
     ∙ ap (λ r. written r c.args.out.now) (front_rebuilt c.write_tree_table.ensures _)

@@ -21,5 +21,5 @@ returns c =
     let right = c.rightwards in
     let left = c.leftwards in
     let other = left.ensures in
-    topped a.n a.order.now a.depths.now right.new.1.1.1.1.0 left.new.1.1.1.1.0 a.p
+    topped a.n a.order.now a.depths.now right.new.tops left.new.tops a.p
     (whole - (a.base + a.base)) p.0 p.1 other.0 right.ensures.1 other.1 other.2

@@ -45,7 +45,7 @@ returns c =
     let left = c.move_left in
     let other = left.ensures in (
       refl,
-      topped a.n a.order.now a.depths.now right.new.1.1.1.1.0 left.new.1.1.1.1.0
+      topped a.n a.order.now a.depths.now right.new.tops left.new.tops
           a.p (whole - (base + base)) c.requires.0 c.requires.1 other.0 right.ensures.1
           (λ v l. other.1 v (omega arith) l) other.2,
     )

@@ -24,7 +24,7 @@ unfolding outcome_of
 returns-then-hash-eq-HASHES c =
     let bad = failed_hash _ c.name_hash-hash.ensures c.if-hash-eq-HASHES.true in
     let refused = bad_here c.loop-i.invariant.0 c.loop-i-test.true bad in
-    (ap outcome_of (sym refused), λ e. absurd (none_not_some _ _ refused e))
+    record { answer = ap outcome_of (sym refused); index = λ e. absurd (none_not_some _ _ refused e) }
 
 -- the name is good, and this is its hash
 good :
@@ -47,7 +47,7 @@ unfolding outcome_of
 returns-then-repeats c =
     let equal = sym c.repeats.ensures.0 ∙ c.if-repeats.true in
     let refused = repeated_here c.loop-i.invariant.0 (good (goal.at.returns-then-repeats c).Else-hash-eq-HASHES).0 c.loop-i-test.true equal in
-    (ap outcome_of (sym refused), λ e. absurd (none_not_some _ _ refused e))
+    record { answer = ap outcome_of (sym refused); index = λ e. absurd (none_not_some _ _ refused e) }
 
 pub next_name-at-requires : goal.next_name-at-requires
 next_name-at-requires c = omega (arith, good_ends _ _ _ (good (goal.at.next_name-at-requires c).Else-hash-eq-HASHES).0)
@@ -64,11 +64,14 @@ pub returns-then-at-offset : goal.returns-then-at-offset
 unfolding outcome_of
 returns-then-at-offset c =
     let refused = rest_here c.loop-i.invariant.0 c.loop-i-test.false c.if-at-offset.true in
-    (ap outcome_of (sym refused), λ e. absurd (none_not_some _ _ refused e))
+    record { answer = ap outcome_of (sym refused); index = λ e. absurd (none_not_some _ _ refused e) }
 
 pub returns : goal.returns
 unfolding outcome_of
 returns c =
     let inv = c.loop-i.invariant in
     let passed : c.loop-i.i ≡ c.args.n = omega (arith, inv.0.within) in
-    (ap outcome_of (sym (all_passed inv.0 c.loop-i-test.false c.if-at-offset.false)), λ _. rw passed at inv.1)
+    record {
+      answer = ap outcome_of (sym (all_passed inv.0 c.loop-i-test.false c.if-at-offset.false));
+      index = λ _. rw passed at inv.1;
+    }

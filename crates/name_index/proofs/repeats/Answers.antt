@@ -26,27 +26,30 @@ asked-name c =
 
 repeated-is :
     (c : After-leaf_named)
-    → (let a = c.before.before.before.args in
-    repeated a.sheet.now a.i ≡ ltb c.leaf_named.result a.i)
-repeated-is c =
-    let a = c.before.before.before.args in
-    rw (c.leaf_named.ensures.0, asked-name (goal.at.X c).After-index_of_u8-many) (repeated_named a.sheet.now a.i)
+    → (let a = c.args in
+    take c.index_of_u8-many.result (drop (a.at + 1) a.sheet.now) ≡ name a.sheet.now a.i
+    → repeated a.sheet.now a.i ≡ ltb c.leaf_named.result a.i)
+repeated-is c asked =
+    let a = c.args in
+    rw (c.leaf_named.ensures.0, asked) (repeated_named a.sheet.now a.i)
 
 pub leaf_named-requires : goal.leaf_named-requires
 leaf_named-requires c =
-    let s = c.before.before.before in
-    (s.requires.0, omega arith, rw (asked-name c) s.requires.3)
+    (c.requires.0, omega arith, rw (asked-name (goal.at.leaf_named-requires c).After-index_of_u8-many) c.requires.3)
 
 pub returns-then-leaf_named-i : goal.returns-then-leaf_named-i
 returns-then-leaf_named-i c =
-    let same_name = repeated-is (goal.at.returns-then-leaf_named-i c).After-leaf_named ∙ lt-ltb _ _ c.if-leaf_named-i.true in
+    let at = goal.at.returns-then-leaf_named-i c in
+    let same_name =
+        repeated-is at.After-leaf_named (asked-name at.After-index_of_u8-many) ∙ lt-ltb _ _ c.if-leaf_named-i.true in
     (sym same_name, λ new. absurd (never same_name new))
 
 pub returns : goal.returns
 returns c =
-    let s = c.before.before.before in
     let linked = c.link.ensures in
-    let new = repeated-is (goal.at.returns c).After-leaf_named ∙ le-ltb _ _ c.if-leaf_named-i.false in
-    let b = ap (λ h. h % buckets) s.requires.3 in
-    let more = index_more s.requires.0 s.requires.1 s.requires.2 s.requires.4 new b in
+    let at = goal.at.returns c in
+    let new =
+        repeated-is at.After-leaf_named (asked-name at.After-index_of_u8-many) ∙ le-ltb _ _ c.if-leaf_named-i.false in
+    let b = ap (λ h. h % buckets) c.requires.3 in
+    let more = index_more c.requires.0 c.requires.1 c.requires.2 c.requires.4 new b in
     (sym new, λ _. rw (linked.0, linked.1, linked.2) more)

@@ -5,7 +5,7 @@ use Rattle.newick_export.proofs.ExportAnswer.{export_refused, export_ready, expo
 use Rattle.newick_export.proofs.export.Goals as goal
 
 pub returns-in_default : goal.returns-in_default
-returns-in_default c = export_refused _ _ _ c.judge_export-outcome.ensures.0 c.in_default.is
+returns-in_default c = export_refused _ _ _ c.judge_export-outcome.ensures.answer c.in_default.is
 
 pub judge_export-outcome-requires : goal.judge_export-outcome-requires
 judge_export-outcome-requires c = (c.figures_of-figures.ensures, index_none _)
@@ -13,9 +13,9 @@ judge_export-outcome-requires c = (c.figures_of-figures.ensures, index_none _)
 pub write_text-length-requires : goal.write_text-length-requires
 write_text-length-requires c =
     let learnt = c.judge_export-outcome.ensures in
-    export_ready _ _ _ learnt.0 c.in-Done.is c.figures_of-figures.ensures.0 learnt.1
+    export_ready _ _ _ learnt.answer c.in-Done.is c.figures_of-figures.ensures.0 learnt.index
 
 pub returns : goal.returns
 returns c =
-    export_done _ _ _ c.judge_export-outcome.ensures.0 c.in-Done.is c.figures_of-figures.ensures.0
+    export_done _ _ _ c.judge_export-outcome.ensures.answer c.in-Done.is c.figures_of-figures.ensures.0
     c.write_text-length.ensures

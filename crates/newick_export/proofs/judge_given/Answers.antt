@@ -18,7 +18,7 @@ unfolding given_refusal
 returns-in_default c =
     let refused = c.in_default.is in
     let told = go_stops _ c.judge_sizes-sizes.ensures _ refused in
-    (told, λ e. absurd (call_stopped _ told refused e))
+    record { answer = told; index = λ e. absurd (call_stopped _ told refused e) }
 
 -- the sizes are right
 right :
@@ -31,19 +31,20 @@ right c = sizes_right _ _ _ _ (call_passed _ c.judge_sizes-sizes.ensures c.in-Do
 rules-told :
     (c : After-judge-rules)
     → (let a = c.args in
-    c.judge-rules.result ≡ outcome_of (rules_refusal a.n a.listing.now))
-rules-told c =
-    let s = right (goal.at.X c).In-Done in
+    RightSizes a.sheet.now a.n a.offset (length a.listing.now)
+    → c.judge-rules.result ≡ outcome_of (rules_refusal a.n a.listing.now))
+rules-told c s =
     c.judge-rules.ensures ∙ ap outcome_of (rules_left _ _ 0 0 s.count s.long (omega arith))
 
 pub returns-in_default-rules : goal.returns-in_default-rules
 unfolding given_refusal
 returns-in_default-rules c =
     let refused = c.in_default-rules.is in
+    let at = goal.at.returns-in_default-rules c in
     let told =
-    go_on _ c.judge_sizes-sizes.ensures _ c.in-Done.is
-    (go_stops _ (rules-told (goal.at.returns-in_default-rules c).After-judge-rules) _ refused) in
-    (told, λ e. absurd (call_stopped _ told refused e))
+        go_on _ c.judge_sizes-sizes.ensures _ c.in-Done.is
+        (go_stops _ (rules-told at.After-judge-rules (right at.In-Done)) _ refused) in
+    record { answer = told; index = λ e. absurd (call_stopped _ told refused e) }
 
 pub judge_names-requires : goal.judge_names-requires
 judge_names-requires c =
@@ -53,9 +54,11 @@ judge_names-requires c =
 pub returns : goal.returns
 unfolding given_refusal
 returns c =
-    let a = c.args in
-    let learnt = c.judge_names.ensures in (
-      go_on _ c.judge_sizes-sizes.ensures _ c.in-Done.is
-          (go_passes _ (rules-told (goal.at.returns c).After-judge-rules) _ c.in-Done-rules.is learnt.0),
-      λ e. learnt.1 (names_good _ _ _ a.listing.now e),
-    )
+    let learnt = c.judge_names.ensures in
+    let at = goal.at.returns c in
+    record {
+      answer =
+          go_on _ c.judge_sizes-sizes.ensures _ c.in-Done.is
+          (go_passes _ (rules-told at.After-judge-rules (right at.In-Done)) _ c.in-Done-rules.is learnt.answer);
+      index = λ e. learnt.index (names_good _ _ _ c.args.listing.now e);
+    }

@@ -9,8 +9,7 @@ use Rattle.newick_text.proofs.Running.{ran_on, ran_low}
 use Rattle.newick_text.proofs.read_text.Goals as goal
 
 pub loop-k-init : goal.loop-k-init
-loop-k-init c =
-    (c.requires.indexed, c.requires.count, c.requires.strains, read_start c.requires _)
+loop-k-init c = (c.requires.indexed, c.requires.count, c.requires.strains, read_start c.requires _)
 
 pub returns-then-after-eq-BROKEN : goal.returns-then-after-eq-BROKEN
 returns-then-after-eq-BROKEN c =
@@ -30,24 +29,16 @@ bracket-kept-requires c =
     c.end_name-named.ensures
 
 pub next_depth-depth-requires : goal.next_depth-depth-requires
-next_depth-depth-requires c =
-    c.loop-k.invariant.3.shallow
-
-pub overflow_add-k : goal.overflow_add-k
-overflow_add-k c =
-    omega (arith, c.loop-k-test.true, c.well-formed.1.1.1.1.1.0)
+next_depth-depth-requires c = c.loop-k.invariant.3.shallow
 
 pub name_hash-requires : goal.name_hash-requires
-name_hash-requires c =
-    c.loop-k.invariant.3.hash_low
+name_hash-requires c = c.loop-k.invariant.3.hash_low
 
 pub run_on-run-requires : goal.run_on-run-requires
-run_on-run-requires c =
-    (omega (arith, c.loop-k-test.true), c.name_hash.ensures.1)
+run_on-run-requires c = (omega (arith, c.loop-k-test.true), c.name_hash.ensures.1)
 
 pub loop-k-smaller : goal.loop-k-smaller
-loop-k-smaller c =
-    omega (arith, c.loop-k-test.true, ran_low _ c.run_on-run.ensures)
+loop-k-smaller c = omega (arith, c.loop-k-test.true, ran_low _ c.run_on-run.ensures)
 
 pub loop-k-preserved : goal.loop-k-preserved
 loop-k-preserved c =

@@ -1,6 +1,7 @@
 -- `own_rebuild::one_subtree_fits` meets its contract. The loop's invariant: the leaves passed are as they
 -- should be.
-use mathlib.Core.Path.{◌≡◌, sym, ◌∙◌}
+use mathlib.Core.Bool.{not}
+use mathlib.Core.Path.{◌≡◌, ap, sym, ◌∙◌}
 use Prim.Native.Nat.{◌-◌}
 use native.Mathlib.Omega.{arith}
 use borrow.Author.Count.{below_more}
@@ -29,7 +30,7 @@ first_cell c = c.cell_at-cell.ensures ∙ first_row _ _ _
 pub returns-then-not-as_expected : goal.returns-then-not-as_expected
 returns-then-not-as_expected c =
     let k = c.loop-k.k in
-    let off = unexpected _ _ _ c.as_expected.ensures c.if-not-as_expected.true in
+    let off = unexpected _ _ _ c.as_expected.ensures (ap not c.if-not-as_expected.true) in
     says_no (λ w. off (first_cell (goal.at.returns-then-not-as_expected c).After-cell_at-cell ∙ (w k (omega arith) (omega arith)).1))
 
 pub loop-k-preserved : goal.loop-k-preserved

@@ -13,11 +13,12 @@ use Rattle.eligible_pairs.proofs.Lent.{no_bytes}
 use Rattle.own_rebuild.proofs.rebuild.Goals.{In-Done}
 use Rattle.own_rebuild.proofs.rebuild.Goals as goal
 
-pub returns : goal.returns
+pub returns-in_default : goal.returns-in_default
 unfolding rebuild_answer
-returns c =
+returns-in_default c =
     let judged = c.judge_for_rows-judged.ensures in
-    rebuild_gives _ _ _ _ outcome (unless_told _ _ _ _ _ judged c.enum-told2.given.1)
+    let t = rebuild_gives _ _ _ _ outcome (unless_told _ _ _ c.args.out.now _ _ judged c.in_default.is) in
+    record { answer = t.0; buffer = t.1.0; meaning = t.1.1 }
 
 -- nothing was refused
 passed :
@@ -37,4 +38,7 @@ unfolding rebuild_answer
 returns c =
     let a = c.args in
     let answered = rw (no_bytes a.n a.table.now) at c.rebuild_checked.ensures in
-    rebuild_gives _ _ _ _ outcome (unless_none _ _ _ _ _ (passed (goal.at.returns c).In-Done) answered)
+    let t =
+    rebuild_gives _ _ _ _ outcome
+    (unless_none _ _ _ _ _ (passed (goal.at.returns c).In-Done) (answered.answer, answered.buffer)) in
+    record { answer = t.0; buffer = t.1.0; meaning = t.1.1 }

@@ -30,14 +30,22 @@ judged c =
 
 pub returns-in_default : goal.returns-in_default
 unfolding packed_answer
-returns-in_default c = unless_told _ _ _ _ _ (judged (goal.at.returns-in_default c).After-judge_sizes-judged) c.in_default.is
+returns-in_default c =
+    let e = judged (goal.at.returns-in_default c).After-judge_sizes-judged in record {
+      answer = (unless_told _ _ c.args.out.now _ _ e c.in_default.is).0;
+      buffer = (unless_told _ _ _ _ _ e c.in_default.is).1;
+    }
 
 -- nothing was refused
 passed :
     (c : In-Done)
     → let a = c.args in
     packed_refusal a.n a.packed.now (length a.out.now) ≡ none
-passed c = call_passed _ (judged (goal.at.X c).After-judge_sizes-judged) c.in-Done.is
+passed c =
+    let due = c.packed_bytes.ensures in
+    call_passed _
+    (c.judge_sizes-judged.ensures ∙ ap outcome_of (packed_as_due _ _ _ _ _ due c.listing_numbers.ensures))
+    c.in-Done.is
 
 right :
     (c : In-Done)
@@ -59,4 +67,6 @@ rebuild_checked-requires c =
 pub returns : goal.returns
 unfolding packed_answer
 returns c =
-    unless_none _ _ _ _ _ (passed (goal.at.returns c).In-Done) (rw (packed-meant (goal.at.returns c).In-Done []) at c.rebuild_checked.ensures)
+    let told = rw (packed-meant (goal.at.returns c).In-Done []) at c.rebuild_checked.ensures in
+    let t = unless_none _ _ _ _ _ (passed (goal.at.returns c).In-Done) (told.answer, told.buffer) in
+    record { answer = t.0; buffer = t.1 }

@@ -31,7 +31,7 @@ returns-in-Refused-asked c =
 question-fine :
     (c : In_default-asked)
     → (let a = c.args in
-    question_refusal a.n a.t3 ≡ none)
+    question_refusal a.n a.question ≡ none)
 question-fine c = call_passed _ c.judge_question-asked.ensures c.in_default-asked.is
 
 pub pairing_of-requires : goal.pairing_of-requires

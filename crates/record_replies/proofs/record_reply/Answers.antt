@@ -1,16 +1,8 @@
 -- `record_replies::record_reply` meets its contract: the origin's number is the figure, or the refusal decides.
-use borrow.Author.Rules.{rules}
 use Rattle.record_replies.proofs.record_reply.Goals as goal
 
-returns : tie.Need-returns
-returns c =
-    rw (c.before.before.before.answer.given.1, ← c.before.number.ensures) c.in_one.ensures
+pub returns-in-Marked : goal.returns-in-Marked
+returns-in-Marked c = rw (c.in-Marked.is, ← c.number.ensures) c.in_one.ensures
 
-returns-2 : tie.Need-returns-2
-returns-2 c = rw c.before.before.answer2.given.1 c.refusal_reply.ensures
-record-reply-spec =
-    tie.close
-    (tie.spec
-    (λ c. search rules) (λ c κs. search rules) (λ c κs. search rules) (λ c. search rules) (λ c κs. search rules)
-    returns
-    returns-2)
+pub returns-in-Refused : goal.returns-in-Refused
+returns-in-Refused c = rw c.in-Refused.is c.refusal_reply.ensures

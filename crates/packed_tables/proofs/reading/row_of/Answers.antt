@@ -23,7 +23,10 @@ on-long :
     (c : After-write_on)
     → length c.write_on.new.out
     ≡ length c.args.out.now
-on-long c = ap length c.write_on.ensures ∙ simp length-set (below-long (goal.at.X c).After-write_below)
+on-long c =
+    ap length c.write_on.ensures
+    ∙ simp length-set (ap length c.write_below.ensures
+    ∙ length_filled _ _ c.args.i (omega arith))
 
 pub write_above-requires : goal.write_above-requires
 write_above-requires c =

@@ -9,8 +9,8 @@ use Rattle.pairings.proofs.question.leaf_bits.Goals.{Start}
 use Rattle.pairings.proofs.question.leaf_bits.Goals as goal
 
 -- the four leaves are different, and below n
-four : (c : Start) → FourAsked c.args.n c.args.t2
-four c = question_four c.args.n c.args.t2 (omega arith) c.requires.1
+four : (c : Start) → FourAsked c.args.n c.args.q
+four c = question_four c.args.n c.args.q (omega arith) c.requires.1
 
 pub bounds-under-index_of_u16 : goal.bounds-under-index_of_u16
 bounds-under-index_of_u16 c = omega (arith, c.index_of_u16.ensures, (four (goal.at.bounds-under-index_of_u16 c).Start).leaf_a)
@@ -27,7 +27,7 @@ bounds-under-index_of_u16-4 c = omega (arith, c.index_of_u16-4.ensures, (four (g
 pub returns : goal.returns
 returns c =
     let few : c.args.n ≤ most_nodes = omega (arith, c.requires.0) in
-    bits_put c.args.t2 (replicate most_nodes 0) (length-replicate {A = ℕ} most_nodes 0) c.args.n _ _ _ _
+    bits_put c.args.q (replicate most_nodes 0) (length-replicate {A = ℕ} most_nodes 0) c.args.n _ _ _ _
     c.index_of_u16.ensures
     c.index_of_u16-2.ensures
     c.index_of_u16-3.ensures

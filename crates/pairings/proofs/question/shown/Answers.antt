@@ -19,7 +19,7 @@ returns-in-6 c = elim c.in-6.is [ inl e ↦ rw e | inr e ↦ rw e ]
 pub returns-in_default : goal.returns-in_default
 unfolding shown_by
 returns-in_default c =
-    let r = c.in_default.rest in
+    let r = c.in_default.in_default-own.rest in
     let side = c.args.side in
     rw (
       ne_eqb side 3 (λ e. r.0.0.1 (inl e)),

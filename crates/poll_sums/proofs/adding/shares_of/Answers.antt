@@ -42,7 +42,7 @@ returns-in-6 c = rw c.in-6.is c.in_one-in-6.ensures
 pub returns-in_default : goal.returns-in_default
 returns-in_default c =
     let code = c.args.code in
-    let six = c.in_default.rest in
+    let six = c.in_default.in_default-own.rest in
     let five = six.0 in
     let four = five.0 in
     let three = four.0 in

@@ -21,13 +21,13 @@ loop-i-preserved c =
     let room : l.i < length l.r = omega arith in (
       omega arith,
       rw length-set l.invariant.1,
-      known_more (word s.what s.t2 s.t3) 0 l.r l.i _ room c.combine_word.ensures l.invariant.2,
+      known_more (word s.what s.a s.b) 0 l.r l.i _ room c.combine_word.ensures l.invariant.2,
     )
 
 pub returns : goal.returns
 returns c =
     let l = c.loop-i in
-    let first = array_cells w64 set_words c.args.t2 _ c.well-formed.1.0 tt in
-    let second = array_cells w64 set_words c.args.t3 _ c.well-formed.1.1.0 tt in
+    let first = array_cells w64 set_words c.args.a _ c.well_formed.1.0 tt in
+    let second = array_cells w64 set_words c.args.b _ c.well_formed.1.1.0 tt in
     known_whole _ 0 l.r set_words l.invariant.1 (λ i h. l.invariant.2 i (omega arith))
     ∙ sym (combined_cells c.args.what 64 set_words _ _ first second)

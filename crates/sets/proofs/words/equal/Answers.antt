@@ -24,12 +24,12 @@ loop-i-init c = (omega arith, λ j h. absurd (omega arith))
 -- the sets are the same exactly when all their words are
 by-words :
     (s : Start)
-    → same_set (set_of_words s.args.t1) (set_of_words s.args.t2)
-    ≡ all_below set_words (λ i. eqb (get_or s.args.t1 i 0) (get_or s.args.t2 i 0))
+    → same_set (set_of_words s.args.a) (set_of_words s.args.b)
+    ≡ all_below set_words (λ i. eqb (get_or s.args.a i 0) (get_or s.args.b i 0))
 by-words s =
-    let first = array_cells w64 set_words s.args.t1 _ s.well-formed.0 tt in
-    let second = array_cells w64 set_words s.args.t2 _ s.well-formed.1.0 tt in
-    same_by_cells 64 set_words refl s.args.t1 s.args.t2 first second
+    let first = array_cells w64 set_words s.args.a _ s.well_formed.0 tt in
+    let second = array_cells w64 set_words s.args.b _ s.well_formed.1.0 tt in
+    same_by_cells 64 set_words refl s.args.a s.args.b first second
 
 pub returns-then-a-i : goal.returns-then-a-i
 returns-then-a-i c =

@@ -16,7 +16,7 @@ loop-i-init c = (omega arith, refl, λ j h. absurd (omega arith))
 pub loop-i-preserved : goal.loop-i-preserved
 loop-i-preserved c =
     let l = c.loop-i in
-    let w = c.args.t1 in
+    let w = c.args.w in
     let room : l.i < length l.r = omega arith in (
       omega arith,
       rw length-set l.invariant.1,
@@ -27,4 +27,4 @@ pub returns : goal.returns
 unfolding cells
 returns c =
     let l = c.loop-i in
-    known_whole (byte c.args.t1) 0 l.r set_bytes l.invariant.1 (λ i h. l.invariant.2 i (omega arith))
+    known_whole (byte c.args.w) 0 l.r set_bytes l.invariant.1 (λ i h. l.invariant.2 i (omega arith))

@@ -15,8 +15,8 @@ loop-j-init c = (omega arith, unfold from_bits sum_below in refl)
 pub loop-j-preserved : goal.loop-j-preserved
 loop-j-preserved c =
     let l = c.loop-j in
-    let bytes = array_cells w8 set_bytes c.args.t1 _ c.well-formed.0 tt in
-    let above = byte_above c.args.t1 bytes c.args.i l.j l.word (omega arith) l.invariant.1 in
+    let bytes = array_cells w8 set_bytes c.args.s _ c.well_formed.0 tt in
+    let above = byte_above c.args.s bytes c.args.i l.j l.word (omega arith) l.invariant.1 in
     (omega arith, rw c.wide.ensures.0 above)
 
 pub returns : goal.returns
