@@ -118,11 +118,14 @@ module _ {o : Option Refusal} {n s : ℕ} {t : List ℕ} (b : Before o n s t) wh
   same_refusal r = (
     λ e. (let before = cause e in (unfold unless in rw before, λ six. six_last (before ∙ ap some six))),
     λ e. elim (unless_refused o (rebuilt n s t) r e.0) [
-      | inl before ↦ unfold answered in rw before
+      | inl before ↦ stopped before
       | inr after ↦ absurd (e.1 (only_six after.0 r after.1))
     ],
   )
     where
+      stopped : o ≡ some r → guess ≡ refused r
+      stopped before = unfold answered in rw before
+
       cause : guess ≡ refused r → o ≡ some r
       cause e = by o refl
         where

@@ -3,7 +3,9 @@ use mathlib.Core.Path.{◌≡◌}
 use mathlib.Core.Option.{none}
 use Prim.Native.Nat.{◌-◌, ◌*◌}
 use lib.ListN.{length}
+use Rattle.limits.specs.Limits.{scale_of}
 use Rattle.refusals.proofs.Answers.{call_passed}
+use Rattle.merging.specs.Guesses.{replied}
 use Rattle.table_checks.specs.Operations.{table_refusal}
 use Rattle.table_checks.proofs.TableRefusal.{accepted_table}
 use Rattle.guess_answers.specs.Operations.{guess_answer, guess_listing}
@@ -30,11 +32,15 @@ guess_checked-requires c =
 pub returns-in_default : goal.returns-in_default
 unfolding guess_answer guess_listing
 returns-in_default c =
-    reply_gives guess_outcome _ _ (guess_meaning _ _ _ _)
-    (tells_on _ _ _ (passed (goal.at.returns-in_default c).In_default) c.guess_checked.ensures)
+    let told = c.guess_checked.ensures in
+    let none = passed (goal.at.returns-in_default c).In_default in
+    let all = reply_gives guess_outcome _ _ (guess_meaning _ _ _ _) (tells_on _ _ _ none (told.answer, told.buffer)) in
+    record { answer = all.0; buffer = all.1.0; meaning = all.1.1 }
 
 pub returns : goal.returns
 unfolding guess_answer guess_listing
 returns c =
-    reply_gives guess_outcome _ _ (guess_meaning _ _ _ _)
-    (tells_stop _ _ _ c.judge_for_rows-judged.ensures c.in-Refused.is)
+    let a = c.args in
+    let told = tells_stop _ (replied a.n (scale_of a.kind) a.table.now) a.out.now c.judge_for_rows-judged.ensures c.in-Refused.is in
+    let all = reply_gives guess_outcome _ _ (guess_meaning _ _ _ _) told in
+    record { answer = all.0; buffer = all.1.0; meaning = all.1.1 }

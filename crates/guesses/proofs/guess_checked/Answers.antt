@@ -13,17 +13,18 @@ rebuild_checked-requires c =
 pub guess_tree-total-requires : goal.guess_tree-total-requires
 guess_tree-total-requires c =
     let told = rw (no_bytes c.args.n c.args.table.now) at c.rebuild_checked.ensures in
-    let same = as_it_was _ _ _ _ told.0 told.1 c.in_default.is in
+    let same = as_it_was _ _ _ _ told.answer told.buffer c.in_default.is in
     (c.requires.0, c.requires.1, rw same c.requires.2)
 
-pub returns : goal.returns
-returns c =
-    let s = c.before.before.before in
-    let told = rw (no_bytes s.args.n s.args.table.now) at c.rebuild-checked.ensures in
-    tells_guess _ _ _ _ told.0 told.1 c.enum-told2.given.1 c.guess-tree.ensures.0
-    c.guess-tree.ensures.1
+pub returns-in_default : goal.returns-in_default
+returns-in_default c =
+    let told = rw (no_bytes c.args.n c.args.table.now) at c.rebuild_checked.ensures in
+    let made = c.guess_tree-total.ensures in
+    let both = tells_guess _ _ _ _ told.answer told.buffer c.in_default.is made.total made.buffer in
+    record { answer = both.0; buffer = both.1 }
 
 pub returns : goal.returns
 returns c =
     let told = rw (no_bytes c.args.n c.args.table.now) at c.rebuild_checked.ensures in
-    tells_rebuilt _ _ _ _ told.0 told.1 c.in-Done.is
+    let both = tells_rebuilt _ _ _ _ told.answer told.buffer c.in-Done.is in
+    record { answer = both.0; buffer = both.1 }

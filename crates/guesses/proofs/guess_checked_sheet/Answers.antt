@@ -9,18 +9,20 @@ pub sheet_guess-requires : goal.sheet_guess-requires
 unfolding sheet_tree
 sheet_guess-requires c =
     let told = c.tree_of.ensures in
-    let same = as_it_was _ _ _ _ told.0 told.1 c.in_default.is in
+    let same = as_it_was _ _ _ _ told.answer told.buffer c.in_default.is in
     (c.requires.0, rw same c.requires.1)
 
 pub returns-in_default : goal.returns-in_default
 unfolding sheet_tree sheet_reply sheet_guessed
 returns-in_default c =
     let told = c.tree_of.ensures in
-    tells_guess _ _ _ _ told.0 told.1 c.in_default.is c.sheet_guess.ensures.0
-    c.sheet_guess.ensures.1
+    let made = c.sheet_guess.ensures in
+    let both = tells_guess _ _ _ _ told.answer told.buffer c.in_default.is made.total made.buffer in
+    record { answer = both.0; buffer = both.1 }
 
 pub returns : goal.returns
 unfolding sheet_tree sheet_reply
 returns c =
     let told = c.tree_of.ensures in
-    tells_rebuilt _ _ _ _ told.0 told.1 c.in-Done.is
+    let both = tells_rebuilt _ _ _ _ told.answer told.buffer c.in-Done.is in
+    record { answer = both.0; buffer = both.1 }

@@ -6,7 +6,7 @@ use lib.ListN.{length}
 use Rattle.refusals.proofs.Answers.{call_passed}
 use Rattle.sheet_rules.specs.Sheets.{leaves_of}
 use Rattle.sheet_rules.specs.Operations.{sheet_refusal}
-use Rattle.guess_answers.specs.Operations.{sheet_guess_answer, sheet_guess_listing}
+use Rattle.guess_answers.specs.Operations.{sheet_reply, sheet_guess_answer, sheet_guess_listing}
 use Rattle.guess_answers.proofs.Promises.{reply_gives, sheet_guess_meaning}
 use Rattle.guesses.specs.Outcomes.{guess_outcome}
 use Rattle.guesses.proofs.Told.{tells_on, tells_stop}
@@ -28,11 +28,15 @@ guess_checked_sheet-requires c =
 pub returns-in_default : goal.returns-in_default
 unfolding sheet_guess_answer sheet_guess_listing
 returns-in_default c =
-    reply_gives guess_outcome _ _ (sheet_guess_meaning _ _)
-    (tells_on _ _ _ (passed (goal.at.returns-in_default c).In_default) c.guess_checked_sheet.ensures)
+    let told = c.guess_checked_sheet.ensures in
+    let none = passed (goal.at.returns-in_default c).In_default in
+    let all = reply_gives guess_outcome _ _ (sheet_guess_meaning _ _) (tells_on _ _ _ none (told.answer, told.buffer)) in
+    record { answer = all.0; buffer = all.1.0; meaning = all.1.1 }
 
 pub returns : goal.returns
 unfolding sheet_guess_answer sheet_guess_listing
 returns c =
-    reply_gives guess_outcome _ _ (sheet_guess_meaning _ _)
-    (tells_stop _ _ _ c.judge_rows-judged.ensures c.in-Refused.is)
+    let a = c.args in
+    let told = tells_stop _ (sheet_reply a.sheet.now) a.out.now c.judge_rows-judged.ensures c.in-Refused.is in
+    let all = reply_gives guess_outcome _ _ (sheet_guess_meaning _ _) told in
+    record { answer = all.0; buffer = all.1.0; meaning = all.1.1 }

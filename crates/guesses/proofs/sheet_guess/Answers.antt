@@ -30,7 +30,7 @@ the-table :
     let n = a.figures.leaves in
     take (n * n) c.table_of.new.out ≡ table_with (leaves_of a.sheet.now) (cells_of a.sheet.now))
 the-table c =
-    rw (c.table_of.ensures.1, c.requires.0.0) (table_in_front _ _ c.requires.1 _)
+    rw (c.table_of.ensures.buffer, c.requires.0.0) (table_in_front _ _ c.requires.1 _)
 
 pub slice_bounds-guess_tree-end : goal.slice_bounds-guess_tree-end
 slice_bounds-guess_tree-end c =

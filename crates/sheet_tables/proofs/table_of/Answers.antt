@@ -6,6 +6,8 @@ use native.Mathlib.Nat.{mul-le-mul}
 use native.Mathlib.Omega.{arith}
 use lib.ListN.{length}
 use Rattle.refusals.proofs.Answers.{call_passed, call_refused, call_done}
+use Rattle.packed_tables.specs.Packed.{table_with}
+use Rattle.sheet_rules.specs.Sheets.{leaves_of, cells_of}
 use Rattle.sheet_rules.specs.Operations.{sheet_refusal}
 use Rattle.sheet_rules.proofs.SheetRefusal.{Accepted, accepted_sheet}
 use Rattle.sheet_tables.specs.Operations.{sheet_table_answer}
@@ -23,7 +25,9 @@ pub returns-in_default : goal.returns-in_default
 unfolding sheet_table_answer
 returns-in_default c =
     let told = rw c.requires.0 at c.judge_sheet-judged.ensures in
-    call_refused _ told _ _ c.in_default.is
+    let S = c.args.sheet.now in
+    let both = call_refused _ told (table_with (leaves_of S) (cells_of S)) c.args.out.now c.in_default.is in
+    record { answer = both.0; buffer = both.1 }
 
 -- the sheet as it was accepted, by the figures that the code has
 accepted :
@@ -60,5 +64,7 @@ unfolding sheet_table_answer
 returns c =
     let figures = c.requires in
     let cells_are = sheet_cells _ figures.0 figures.1 (omega (arith, (accepted (goal.at.returns c).In-Done).sum)) in
-    call_done _ (rw figures.0 at c.judge_sheet-judged.ensures) _ _ c.in-Done.is
-    (c.write_table.ensures ∙ table_written _ _ figures.0 cells_are)
+    let told = rw figures.0 at c.judge_sheet-judged.ensures in
+    let both =
+    call_done _ told _ c.args.out.now c.in-Done.is (c.write_table.ensures ∙ table_written _ _ figures.0 cells_are) in
+    record { answer = both.0; buffer = both.1 }

@@ -10,7 +10,7 @@ use Rattle.refusals.specs.Refusals.{outcome}
 use Rattle.refusals.proofs.Answers.{done_none, unless_told}
 use Rattle.sheet_rules.specs.Sheets.{leaves_of}
 use Rattle.sheet_rules.specs.Operations.{sheet_refusal}
-use Rattle.sheet_trees.specs.Operations.{sheet_bytes_answer}
+use Rattle.sheet_trees.specs.Operations.{sheet_tree, in_bytes, sheet_bytes_answer}
 use Rattle.sheet_trees.proofs.SheetTree.{accepted_here}
 use Rattle.sheet_trees.proofs.InBytes.{fits, bytes_answer, bytes_refused, bytes_written}
 use Rattle.sheet_trees.proofs.Promises.{sheet_bytes_gives}
@@ -20,8 +20,11 @@ use Rattle.sheet_trees.proofs.listing_bytes_of.Goals as goal
 pub returns-in_default : goal.returns-in_default
 unfolding sheet_bytes_answer
 returns-in_default c =
-    sheet_bytes_gives _ _ outcome
-    (unless_told _ _ _ _ _ c.judge_rows-judged.ensures c.in_default.is)
+    let a = c.args in
+    let judged = c.judge_rows-judged.ensures in
+    let told = unless_told _ (in_bytes (sheet_tree a.sheet.now)) a.out.now _ _ judged c.in_default.is in
+    let all = sheet_bytes_gives _ _ outcome told in
+    record { answer = all.0; buffer = all.1.0; meaning = all.1.1 }
 
 -- `judge_rows` found nothing to refuse
 none_arises :
@@ -37,11 +40,14 @@ tree_of-answer-requires c =
 
 pub returns-in_default-answer : goal.returns-in_default-answer
 returns-in_default-answer c =
-    let answer = c.tree_of-answer.ensures.0 in
+    let none = none_arises (goal.at.returns-in_default-answer c).In-Done in
+    let told = c.tree_of-answer.ensures.answer in
+    let all =
     sheet_bytes_gives _ _ outcome (
-      answer ∙ bytes_answer _ _ (none_arises (goal.at.returns-in_default-answer c).In-Done),
-      bytes_refused _ _ (none_arises (goal.at.returns-in_default-answer c).In-Done) _ _ (sym answer ∙ c.in_default-answer.is),
-    )
+      told ∙ bytes_answer _ _ none,
+      bytes_refused _ _ none _ c.args.out.now (sym told ∙ c.in_default-answer.is),
+    ) in
+    record { answer = all.0; buffer = all.1.0; meaning = all.1.1 }
 
 -- what was accepted, by the figures that the code has
 accepted :
@@ -65,10 +71,12 @@ write_bytes-requires c =
 
 pub returns : goal.returns
 returns c =
-    let answer = c.tree_of-answer.ensures.0 in
-    let bytes = rw (c.figures_of-figures.ensures.0, c.tree_of-answer.ensures.1)
-    at c.write_bytes.ensures in
+    let none = none_arises (goal.at.returns c).In-Done in
+    let tree = c.tree_of-answer.ensures in
+    let bytes = rw (c.figures_of-figures.ensures.0, tree.buffer) at c.write_bytes.ensures in
+    let all =
     sheet_bytes_gives _ _ outcome (
-      answer ∙ bytes_answer _ _ (none_arises (goal.at.returns c).In-Done),
-      bytes ∙ bytes_written _ _ (none_arises (goal.at.returns c).In-Done) _ _ (sym answer ∙ c.in-Done-answer.is),
-    )
+      tree.answer ∙ bytes_answer _ _ none,
+      bytes ∙ bytes_written _ _ none _ _ (sym tree.answer ∙ c.in-Done-answer.is),
+    ) in
+    record { answer = all.0; buffer = all.1.0; meaning = all.1.1 }

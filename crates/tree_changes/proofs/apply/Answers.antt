@@ -4,7 +4,8 @@ use mathlib.Core.Path.{refl}
 use lib.ListN.{length}
 use Rattle.refusals.proofs.Answers.{call_passed}
 use Rattle.trees.specs.Trees.{IsTree}
-use Rattle.trees.specs.Listings.{tree_of}
+use Rattle.trees.specs.Listings.{tree_of, standard}
+use Rattle.trees.specs.Tables.{table_of}
 use Rattle.trees.proofs.Rules.{listing_tree}
 use Rattle.trees.proofs.FrontListings.{front_fits, front_keeps}
 use Rattle.change_answers.specs.Operations.{count_after, changed, change_answer, change_table}
@@ -16,7 +17,13 @@ use Rattle.tree_changes.proofs.apply.Goals as goal
 
 pub returns-in_default : goal.returns-in_default
 unfolding change_answer change_table
-returns-in_default c = both_refused _ c.judge-judged.ensures _ _ _ _ c.in_default.is
+returns-in_default c =
+    let a = c.args in
+    let m = count_after a.n a.change in
+    let T = changed a.n (tree_of a.n a.listing.now) a.change in
+    let told = c.judge-judged.ensures in
+    let both = both_refused _ told (standard m T) (table_of m T) a.out.now a.cells.now c.in_default.is in
+    record { answer = both.0; listing = both.1.0; table = both.1.1 }
 
 -- nothing is refused, so the changed tree is one
 module _ (c : In-Done) where
@@ -40,23 +47,25 @@ write_rows-requires c =
 
 pub write_table-requires : goal.write_table-requires
 write_table-requires c =
-    let w = right (goal.at.write_table-requires c).In-Done in
-    let put = c.write-rows.ensures in
+    let here = (goal.at.write_table-requires c).In-Done in
+    let w = right here in
+    let put = c.write_rows.ensures in
     let k = w.new_count in
-    rw c.count_after.ensures
-    (k, front_fits _ k _ (is_tree (goal.at.write_table-requires c).In-Done) _ _ put, front_keeps _ k _ (is_tree (goal.at.write_table-requires c).In-Done) _ _ put, w.enough_cells)
+    let tree = is_tree here in
+    rw c.count_after.ensures (k, front_fits _ k _ tree _ _ put, front_keeps _ k _ tree _ _ put, w.enough_cells)
 
 pub returns : goal.returns
 unfolding change_answer change_table
 returns c =
-    let w = right (goal.at.returns c).In-Done in
-    let k = w.new_count in
-    let put = c.write-rows.ensures in
-    let told = c.judge.ensures in
-    let table = rw c.count_after.ensures at
-    c.write_table.ensures in
-    both_done _ told _ _ _ _ c.enum_told.given.1 (listing_put _ k _ (is_tree (goal.at.returns c).In-Done) _ _ put _ refl)
-    (table_put _ k _ (is_tree (goal.at.returns c).In-Done) _ _ put _ _ table)
+    let here = (goal.at.returns c).In-Done in
+    let k = (right here).new_count in
+    let tree = is_tree here in
+    let put = c.write_rows.ensures in
+    let table = rw c.count_after.ensures at c.write_table.ensures in
+    let both =
+    both_done _ c.judge-judged.ensures _ _ c.args.out.now c.args.cells.now c.in-Done.is
+    (listing_put _ k _ tree _ _ put _ refl) (table_put _ k _ tree _ _ put _ _ table) in
+    record { answer = both.0; listing = both.1.0; table = both.1.1 }
 
 pub count_after-requires : goal.count_after-requires
 count_after-requires c = (right (goal.at.count_after-requires c).In-Done).count

@@ -7,4 +7,4 @@ pub returns : goal.returns
 unfolding change_record
 returns c =
     let done = c.apply-pruned.ensures in
-    (mark_told _ _ _ c.mark.ensures done.0, done.1)
+    record { answer = mark_told _ _ _ c.mark.ensures done.answer; listing = done.listing; table = done.table }

@@ -38,22 +38,19 @@ slice_bounds-write_row-start c = omega (arith, ends (goal.at.slice_bounds-write_
 
 -- the row as it was written into the part
 module _ (c : After-write_row) where
-  abbrev s : tie.Start
-  s = (goal.at.X c).Start
-
   abbrev at : ℕ
-  at = s.args.i * s.args.n
+  at = c.args.i * c.args.n
 
   abbrev part : List ℕ
-  part = take (length s.args.out.now - at) (drop at s.args.out.now)
+  part = take (length c.args.out.now - at) (drop at c.args.out.now)
 
-  enough : s.args.n ≤ length part
-  enough = omega (arith, ends s, mid_len at (length s.args.out.now) s.args.out.now (omega arith))
+  enough : c.args.i < c.args.n → at + c.args.n ≤ length c.args.out.now → c.args.n ≤ length part
+  enough l e = omega (arith, e, mid_len at (length c.args.out.now) c.args.out.now (omega arith))
 
   row_put :
-      let cells = packed_cells s.args.n s.args.packed.now in
-      c.write_row.new.out ≡ filled s.args.n (mirrored s.args.n cells s.args.i) part
-  row_put = c.write_row.ensures ∙ row_read _ _ s.pre.0 _ part s.pre.1 enough
+      let cells = packed_cells c.args.n c.args.packed.now in
+      at + c.args.n ≤ length c.args.out.now → c.write_row.new.out ≡ filled c.args.n (mirrored c.args.n cells c.args.i) part
+  row_put e = c.write_row.ensures ∙ row_read _ _ c.requires.0 _ part c.requires.1 (enough c.requires.1 e)
 
 pub returns : goal.returns
 returns c =
@@ -64,9 +61,12 @@ returns c =
     let k = length xs - at in
     let same : (j : ℕ) → j < a.n → mirrored a.n cells a.i j ≡ table_rule a.n cells (at + j) =
     λ j l. rw (row_of a.n a.i j l, column_of a.n a.i j l) in
-    let long = ap length (row_put (goal.at.returns c).After-write_row) ∙ length_filled _ _ a.n (enough (goal.at.returns c).After-write_row) in
+    let here = goal.at.returns c in
+    let e = ends here.Start in
+    let put = row_put here.After-write_row e in
+    let room = enough here.After-write_row c.requires.1 e in
+    let long = ap length put ∙ length_filled _ _ a.n room in
     record {
       long = same_len_mid at k xs c.write_row.new.out long;
-      row = λ base h e.
-          rw (row_put (goal.at.returns c).After-write_row) (filled_on at a.n k (table_rule a.n cells) _ base xs e (enough (goal.at.returns c).After-write_row) same);
+      row = λ base h e. rw put (filled_on at a.n k (table_rule a.n cells) _ base xs e room same);
     }
