@@ -115,7 +115,8 @@ module _ {S : List ℕ} {k : ℕ} {heads before starts : List ℕ} (x : Indexes 
   -- one name more, which equals none of these
   pub index_more :
       {at b : ℕ} → k < most_leaves → at ≡ name_start S k → next_name S at ≤ length S → repeated S k ≡ false
-      → b ≡ leaf_bucket S k → Indexes S (k + 1) (set heads b (k + 1)) (set before k (get_or heads b 0)) (set starts k at)
+      → b ≡ leaf_bucket S k
+      → Indexes S (k + 1) (set heads b (k + 1)) (set before k (get_or heads b 0)) (set starts k at)
   index_more {at} {b} few at_is ends new b_is =
       let b_fits : b < buckets = rw b_is (mod-lt _ (omega arith)) in
       record {

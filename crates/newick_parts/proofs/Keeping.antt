@@ -289,7 +289,8 @@ module _ {known : List (List ℕ)} {n : ℕ} {o : Open} {s : List Open} {d : Dra
         let here : length (all_ways s) ≡ depth - 1 = length-map s open_ways ∙ sym place_is in
         let put = piled_more parts (all_ways s) (get_or parts (depth - 1) 0 + 1)
         (omega (arith, here, A.parts_long)) before in
-        let same : get_or parts (depth - 1) 0 + 1 ≡ ways (with_part o d) = rw (ways_here t) (sym (ways_with_part o d)) in
+        let same : get_or parts (depth - 1) 0 + 1 ≡ ways (with_part o d) =
+        rw (ways_here t) (sym (ways_with_part o d)) in
         let here_put =
             subst (λ i. Piled (set parts i (get_or parts (depth - 1) 0 + 1))
             ((get_or parts (depth - 1) 0 + 1) ∷ all_ways s)) here put in

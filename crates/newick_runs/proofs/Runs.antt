@@ -38,7 +38,8 @@ pub passed_none : {f : ℕ → Bool} {t : List ℕ} (k : ℕ) → k ≤ length t
 passed_none k h = record { low = omega arith; high = h; each = λ j a b. absurd (omega arith) }
 
 pub passed_more :
-    {f : ℕ → Bool} {t : List ℕ} {k j : ℕ} → Passed f t k j → j < length t → f (get_or t j 0) ≡ true → Passed f t k (j + 1)
+    {f : ℕ → Bool} {t : List ℕ} {k j : ℕ} → Passed f t k j → j < length t → f (get_or t j 0) ≡ true
+    → Passed f t k (j + 1)
 passed_more {f} {t} {k} {j} P l e = record {
   low = omega (arith, P.low);
   high = omega arith;

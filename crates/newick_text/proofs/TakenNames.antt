@@ -128,7 +128,9 @@ module _ {known : List (List ℕ)} {n : ℕ} {s : List Open} {K : Kept} {parts n
         (k : ℕ) → k < n
         → flags (set seen (leaf_named known x) true) k ≡ (eqb k (leaf_named known x) || flags seen k)
     sees k q = elim (ℕ_discrete k (leaf_named known x)) [
-      | yes e ↦ rw (e, eqb_same (leaf_named known x)) (get_or-set_same seen (leaf_named known x) true false (omega arith))
+      | yes e ↦
+          rw (e, eqb_same (leaf_named known x))
+          (get_or-set_same seen (leaf_named known x) true false (omega arith))
       | no d ↦ rw (ne_eqb k (leaf_named known x) d) (get_or-set_other seen (leaf_named known x) k true false d)
     ]
 

@@ -24,7 +24,8 @@ fine c = call_passed _ c.judge_sizes-sizes.ensures c.in-Done.is
 
 pub returns-in_default-graft : goal.returns-in_default-graft
 returns-in_default-graft c =
-    graft_stops _ _ _ _ _ _ _ _ (fine (goal.at.returns-in_default-graft c).In-Done) c.judge-graft.ensures c.in_default-graft.is
+    graft_stops _ _ _ _ _ _ _ _ (fine (goal.at.returns-in_default-graft c).In-Done) c.judge-graft.ensures
+    c.in_default-graft.is
 
 pub overflow_add-n : goal.overflow_add-n
 overflow_add-n c =

@@ -37,16 +37,14 @@ returns-then-numbers-listing_numbers c =
 
 numbers :
     (c : Else-numbers-listing_numbers)
-    → let a = c.args in a.numbers ≡ 2 * (a.n - 2)
-numbers c =
-    c.if-numbers-listing_numbers.false
-    ∙ c.listing_numbers.ensures (count (goal.at.table_cells-requires c).Else-not-leaf_count)
+    → let a = c.args in IsLeafCount a.n → a.numbers ≡ 2 * (a.n - 2)
+numbers c k = c.if-numbers-listing_numbers.false ∙ c.listing_numbers.ensures k
 
 pub returns-then-cells-table_cells : goal.returns-then-cells-table_cells
 returns-then-cells-table_cells c =
     let at = goal.at.returns-then-cells-table_cells c in
     let k = count at.Else-not-leaf_count in
-    cells_told _ _ _ _ _ _ _ k (new_count at.Else-not-leaf_count_of) (numbers at.Else-numbers-listing_numbers)
+    cells_told _ _ _ _ _ _ _ k (new_count at.Else-not-leaf_count_of) (numbers at.Else-numbers-listing_numbers k)
     (λ h. c.if-cells-table_cells.true (h ∙ sym (c.table_cells.ensures k)))
 
 cells :
@@ -65,9 +63,10 @@ new-leaf-count c =
 pub returns-then-new_cells-table_cells : goal.returns-then-new_cells-table_cells
 returns-then-new_cells-table_cells c =
     let at = goal.at.returns-then-new_cells-table_cells c in
+    let k = count at.Else-not-leaf_count in
     let larger = new-leaf-count at.Else-cells-table_cells in
-    new_cells_told _ _ _ _ _ _ _ (count at.Else-not-leaf_count) (new_count at.Else-not-leaf_count_of)
-    (numbers at.Else-numbers-listing_numbers) (cells at.Else-cells-table_cells)
+    new_cells_told _ _ _ _ _ _ _ k (new_count at.Else-not-leaf_count_of)
+    (numbers at.Else-numbers-listing_numbers k) (cells at.Else-cells-table_cells)
     (λ h. c.if-new_cells-table_cells.true (h ∙ sym (c.table_cells-2.ensures larger)))
 
 new_cells :
@@ -79,24 +78,23 @@ new_cells c count = c.if-new_cells-table_cells.false ∙ c.table_cells-2.ensures
 pub returns-then-room-due : goal.returns-then-room-due
 returns-then-room-due c =
     let at = goal.at.returns-then-room-due c in
+    let k = count at.Else-not-leaf_count in
     let larger = new-leaf-count at.Else-cells-table_cells in
-    room_told _ _ _ _ _ _ _ (count at.Else-not-leaf_count) (new_count at.Else-not-leaf_count_of)
-    (numbers at.Else-numbers-listing_numbers) (cells at.Else-cells-table_cells)
+    room_told _ _ _ _ _ _ _ k (new_count at.Else-not-leaf_count_of)
+    (numbers at.Else-numbers-listing_numbers k) (cells at.Else-cells-table_cells)
     (new_cells at.Else-new_cells-table_cells larger) c.if-room-due.true
 
 pub returns : goal.returns
 returns c =
     let at = goal.at.returns c in
+    let k = count at.Else-not-leaf_count in
     let larger = new-leaf-count at.Else-cells-table_cells in
-    sizes_told _ _ _ _ _ _ _ (count at.Else-not-leaf_count) (new_count at.Else-not-leaf_count_of)
-    (numbers at.Else-numbers-listing_numbers) (cells at.Else-cells-table_cells)
+    sizes_told _ _ _ _ _ _ _ k (new_count at.Else-not-leaf_count_of)
+    (numbers at.Else-numbers-listing_numbers k) (cells at.Else-cells-table_cells)
     (new_cells at.Else-new_cells-table_cells larger) (omega (arith, c.if-room-due.false))
 
 pub overflow_add-n : goal.overflow_add-n
 overflow_add-n c = omega (arith, count c)
-
-pub table_cells-requires : goal.table_cells-requires
-table_cells-requires c = search rules
 
 pub overflow_add-n-2 : goal.overflow_add-n-2
 overflow_add-n-2 c = omega (arith, count (goal.at.overflow_add-n-2 c).Else-not-leaf_count)

@@ -18,18 +18,21 @@ graft_rows-requires c =
 
 pub slice_bounds-rows-end : goal.slice_bounds-rows-end
 slice_bounds-rows-end c =
-    front_fits _ _ _ _ _ c.requires.0 (count (goal.at.slice_bounds-rows-end c).Start) c.requires.2 c.requires.4 c.graft_rows.ensures
+    let larger = count (goal.at.slice_bounds-rows-end c).Start in
+    front_fits _ _ _ _ _ c.requires.0 larger c.requires.2 c.requires.4 c.graft_rows.ensures
 
 pub slice_bounds-total_gap-end : goal.slice_bounds-total_gap-end
 slice_bounds-total_gap-end c =
-    sym (front_long _ _ _ _ _ c.requires.0 (count (goal.at.slice_bounds-total_gap-end c).Start) c.requires.2 c.requires.4 c.graft_rows.ensures)
+    let larger = count (goal.at.slice_bounds-total_gap-end c).Start in
+    sym (front_long _ _ _ _ _ c.requires.0 larger c.requires.2 c.requires.4 c.graft_rows.ensures)
 
 pub total_gap-requires : goal.total_gap-requires
-total_gap-requires c = (
-  count (goal.at.total_gap-requires c).Start,
-  c.requires.3,
-  front_keeps _ _ _ _ _ c.requires.0 (count (goal.at.total_gap-requires c).Start) c.requires.2 c.requires.4 c.graft_rows.ensures,
-)
+total_gap-requires c =
+    let larger = count (goal.at.total_gap-requires c).Start in (
+      larger,
+      c.requires.3,
+      front_keeps _ _ _ _ _ c.requires.0 larger c.requires.2 c.requires.4 c.graft_rows.ensures,
+    )
 
 pub returns : goal.returns
 returns c =

@@ -38,25 +38,30 @@ good c = passed_hash _ c.name_hash-hash.ensures c.if-hash-eq-HASHES.false
 pub repeats-requires : goal.repeats-requires
 repeats-requires c =
     let l = c.loop-i in
-    let ends = good_ends _ _ _ (good (goal.at.repeats-requires c).Else-hash-eq-HASHES).0 in
-    let hashed = rw (start_name _ _ l.invariant.0.here) at (good (goal.at.repeats-requires c).Else-hash-eq-HASHES).1 in
+    let g = good (goal.at.repeats-requires c).Else-hash-eq-HASHES in
+    let ends = good_ends _ _ _ g.0 in
+    let hashed = rw (start_name _ _ l.invariant.0.here) at g.1 in
     (l.invariant.1, omega arith, l.invariant.0.here, hashed, omega (arith, ends), c.requires.1)
 
 pub returns-then-repeats : goal.returns-then-repeats
 unfolding outcome_of
 returns-then-repeats c =
     let equal = sym c.repeats.ensures.0 ∙ c.if-repeats.true in
-    let refused = repeated_here c.loop-i.invariant.0 (good (goal.at.returns-then-repeats c).Else-hash-eq-HASHES).0 c.loop-i-test.true equal in
+    let g = good (goal.at.returns-then-repeats c).Else-hash-eq-HASHES in
+    let refused = repeated_here c.loop-i.invariant.0 g.0 c.loop-i-test.true equal in
     record { answer = ap outcome_of (sym refused); index = λ e. absurd (none_not_some _ _ refused e) }
 
 pub next_name-at-requires : goal.next_name-at-requires
-next_name-at-requires c = omega (arith, good_ends _ _ _ (good (goal.at.next_name-at-requires c).Else-hash-eq-HASHES).0)
+next_name-at-requires c =
+    let g = good (goal.at.next_name-at-requires c).Else-hash-eq-HASHES in
+    omega (arith, good_ends _ _ _ g.0)
 
 pub loop-i-preserved : goal.loop-i-preserved
 loop-i-preserved c =
     let learnt = c.repeats.ensures in
+    let g = good (goal.at.loop-i-preserved c).Else-hash-eq-HASHES in
     let new = sym learnt.0 ∙ c.if-repeats.false in (
-      passed_more c.loop-i.invariant.0 (good (goal.at.loop-i-preserved c).Else-hash-eq-HASHES).0 c.loop-i-test.true new c.next_name-at.ensures,
+      passed_more c.loop-i.invariant.0 g.0 c.loop-i-test.true new c.next_name-at.ensures,
       learnt.1 new,
     )
 

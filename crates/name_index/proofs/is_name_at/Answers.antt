@@ -14,7 +14,8 @@ returns-then-index_of_u8-many c =
     let t = a.text.now in
     let asked = length-take-le a.many (drop a.from t) (rw (length-drop a.from t) (omega arith)) in
     let had = name_length S a.p (omega arith) in
-    sym (same_lengths (take a.many (drop a.from t)) (name_at S a.p) (λ e. c.if-index_of_u8-many.true (omega (arith, e))))
+    sym (same_lengths (take a.many (drop a.from t)) (name_at S a.p)
+    (λ e. c.if-index_of_u8-many.true (omega (arith, e))))
 
 pub returns : goal.returns
 unfolding name_at

@@ -25,7 +25,8 @@ returns-then-is_name_at c =
 pub loop-chain-smaller : goal.loop-chain-smaller
 loop-chain-smaller c =
     let x = c.requires.0 in
-    search_falls x _ c.loop-chain.invariant (c.loop-chain.chain - 1) (omega arith) c.index_of_u16-chain-in-loop-chain.ensures
+    search_falls x _ c.loop-chain.invariant (c.loop-chain.chain - 1) (omega arith)
+    c.index_of_u16-chain-in-loop-chain.ensures
 
 pub loop-chain-preserved : goal.loop-chain-preserved
 loop-chain-preserved c =
@@ -33,7 +34,8 @@ loop-chain-preserved c =
     let below : i < c.args.k = omega (arith, c.loop-chain.invariant.within) in
     let differs = sym c.is_name_at.ensures ∙ c.if-is_name_at.false in
     let other_name = rw (index_name c.requires.0 below c.index_of_u16.ensures) at differs in
-    search_more c.requires.0 _ c.loop-chain.invariant i (omega arith) other_name c.index_of_u16-chain-in-loop-chain.ensures
+    search_more c.requires.0 _ c.loop-chain.invariant i (omega arith) other_name
+    c.index_of_u16-chain-in-loop-chain.ensures
 
 pub returns : goal.returns
 returns c =

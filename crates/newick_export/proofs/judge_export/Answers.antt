@@ -41,7 +41,9 @@ pub overflow_mul-n : goal.overflow_mul-n
 overflow_mul-n c = omega (arith, few (goal.at.overflow_mul-n c).In-Done)
 
 pub overflow_add-offset : goal.overflow_add-offset
-overflow_add-offset c = omega (arith, few (goal.at.overflow_add-offset c).In-Done, low (goal.at.overflow_add-offset c).In-Done)
+overflow_add-offset c =
+    let here = (goal.at.overflow_add-offset c).In-Done in
+    omega (arith, few here, low here)
 
 pub overflow_sub-offset : goal.overflow_sub-offset
 overflow_sub-offset c = omega (arith, few (goal.at.overflow_sub-offset c).In-Done)

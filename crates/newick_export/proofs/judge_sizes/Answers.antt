@@ -29,22 +29,26 @@ module _ (c : After-judge_input-input) where
 
 pub returns-in_default : goal.returns-in_default
 returns-in_default c =
-    go_stops _ (told (goal.at.returns-in_default c).After-judge_input-input) _ c.in_default.is ∙ ap outcome_of (sym (ends_passed _ _ _ _ (ends (goal.at.returns-in_default c).After-judge_input-input)))
+    let input = (goal.at.returns-in_default c).After-judge_input-input in
+    go_stops _ (told input) _ c.in_default.is ∙ ap outcome_of (sym (ends_passed _ _ _ _ (ends input)))
 
 pub right_sum-requires : goal.right_sum-requires
 right_sum-requires c =
-    (input_right Counts _ _ _ (call_passed _ (told (goal.at.right_sum-requires c).After-judge_input-input) c.in-Done.is)).0
+    let input = (goal.at.right_sum-requires c).After-judge_input-input in
+    (input_right Counts _ _ _ (call_passed _ (told input) c.in-Done.is)).0
 
 pub returns-then-not-right_sum : goal.returns-then-not-right_sum
 unfolding outcome_of
 returns-then-not-right_sum c =
-    let passed = call_passed _ (told (goal.at.returns-then-not-right_sum c).After-judge_input-input) c.in-Done.is in
+    let input = (goal.at.returns-then-not-right_sum c).After-judge_input-input in
+    let passed = call_passed _ (told input) c.in-Done.is in
     let wrong = sym c.right_sum.ensures ∙ c.if-not-right_sum.true in
-    ap outcome_of (sym (sum_refused _ _ _ _ (ends (goal.at.returns-then-not-right_sum c).After-judge_input-input) passed wrong))
+    ap outcome_of (sym (sum_refused _ _ _ _ (ends input) passed wrong))
 
 pub returns : goal.returns
 unfolding outcome_of
 returns c =
-    let passed = call_passed _ (told (goal.at.returns c).After-judge_input-input) c.in-Done.is in
+    let input = (goal.at.returns c).After-judge_input-input in
+    let passed = call_passed _ (told input) c.in-Done.is in
     let right = sym c.right_sum.ensures ∙ c.if-not-right_sum.false in
-    ap outcome_of (sym (sum_passed _ _ _ _ (ends (goal.at.returns c).After-judge_input-input) passed right))
+    ap outcome_of (sym (sum_passed _ _ _ _ (ends input) passed right))

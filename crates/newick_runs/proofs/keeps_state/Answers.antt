@@ -10,7 +10,8 @@ pub returns-then-state-eq-IN_NAME : goal.returns-then-state-eq-IN_NAME
 returns-then-state-eq-IN_NAME c = in_name _ _ c.if-state-eq-IN_LENGTH.false c.if-state-eq-IN_NAME.true
 
 pub returns-then-state-eq-AT_LENGTH : goal.returns-then-state-eq-AT_LENGTH
-returns-then-state-eq-AT_LENGTH c = at_length _ _ c.if-state-eq-IN_LENGTH.false c.if-state-eq-IN_NAME.false c.if-state-eq-AT_LENGTH.true
+returns-then-state-eq-AT_LENGTH c =
+    at_length _ _ c.if-state-eq-IN_LENGTH.false c.if-state-eq-IN_NAME.false c.if-state-eq-AT_LENGTH.true
 
 pub returns : goal.returns
 returns c =
