@@ -184,7 +184,8 @@ module _ {n m : ℕ} {l numbers₀ numbers rows chain : List ℕ} {c made chaine
     row = (rows_read n l (c - n) inside lawful_rows).1
 
     pub row_fits :
-        JoinKeptFits m (get_or numbers (get_or l (2 * (c - n)) 0) 0) (get_or numbers (get_or l (2 * (c - n) + 1) 0) 0) made
+        JoinKeptFits m (get_or numbers (get_or l (2 * (c - n)) 0) 0)
+        (get_or numbers (get_or l (2 * (c - n) + 1) 0) 0) made
         chained rows chain
     row_fits da db =
         let M = J.start in
@@ -196,7 +197,8 @@ module _ {n m : ℕ} {l numbers₀ numbers rows chain : List ℕ} {c made chaine
 
     pub joined_more :
         {rows' chain' : List ℕ} {r : Joined}
-        → JoinsKept m (get_or numbers (get_or l (2 * (c - n)) 0) 0) (get_or numbers (get_or l (2 * (c - n) + 1) 0) 0) made
+        → JoinsKept m (get_or numbers (get_or l (2 * (c - n)) 0) 0)
+        (get_or numbers (get_or l (2 * (c - n) + 1) 0) 0) made
         chained rows chain rows' chain' r
         → JoinedTo n m l numbers₀ (set numbers c r.number) rows' chain' (c + 1) r.rows r.chained
     joined_more {rows'} {chain'} {r} K = record {

@@ -34,13 +34,15 @@ unfolding guess_answer guess_listing
 returns-in_default c =
     let told = c.guess_checked.ensures in
     let none = passed (goal.at.returns-in_default c).In_default in
-    let all = reply_gives guess_outcome _ _ (guess_meaning _ _ _ _) (tells_on _ _ _ none (told.answer, told.buffer)) in
+    let both = tells_on _ _ _ none (told.answer, told.buffer) in
+    let all = reply_gives guess_outcome _ _ (guess_meaning _ _ _ _) both in
     record { answer = all.0; buffer = all.1.0; meaning = all.1.1 }
 
 pub returns : goal.returns
 unfolding guess_answer guess_listing
 returns c =
     let a = c.args in
-    let told = tells_stop _ (replied a.n (scale_of a.kind) a.table.now) a.out.now c.judge_for_rows-judged.ensures c.in-Refused.is in
+    let judged = c.judge_for_rows-judged.ensures in
+    let told = tells_stop _ (replied a.n (scale_of a.kind) a.table.now) a.out.now judged c.in-Refused.is in
     let all = reply_gives guess_outcome _ _ (guess_meaning _ _ _ _) told in
     record { answer = all.0; buffer = all.1.0; meaning = all.1.1 }

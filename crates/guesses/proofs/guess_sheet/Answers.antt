@@ -30,7 +30,8 @@ unfolding sheet_guess_answer sheet_guess_listing
 returns-in_default c =
     let told = c.guess_checked_sheet.ensures in
     let none = passed (goal.at.returns-in_default c).In_default in
-    let all = reply_gives guess_outcome _ _ (sheet_guess_meaning _ _) (tells_on _ _ _ none (told.answer, told.buffer)) in
+    let both = tells_on _ _ _ none (told.answer, told.buffer) in
+    let all = reply_gives guess_outcome _ _ (sheet_guess_meaning _ _) both in
     record { answer = all.0; buffer = all.1.0; meaning = all.1.1 }
 
 pub returns : goal.returns

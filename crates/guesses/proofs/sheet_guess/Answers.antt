@@ -34,7 +34,8 @@ the-table c =
 
 pub slice_bounds-guess_tree-end : goal.slice_bounds-guess_tree-end
 slice_bounds-guess_tree-end c =
-    rw (the-table (goal.at.slice_bounds-guess_tree-end c).After-table_of, c.requires.0.0) (sym (sheet_is_table _ _).cells)
+    let table = the-table (goal.at.slice_bounds-guess_tree-end c).After-table_of in
+    rw (table, c.requires.0.0) (sym (sheet_is_table _ _).cells)
 
 pub guess_tree-requires : goal.guess_tree-requires
 guess_tree-requires c =

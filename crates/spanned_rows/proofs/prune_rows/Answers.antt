@@ -11,7 +11,8 @@ use Rattle.spanned_rows.proofs.prune_rows.Goals as goal
 
 pub span_rows-m-requires : goal.span_rows-m-requires
 span_rows-m-requires c =
-    (c.requires.0, c.requires.2, few_marked c.requires.0 c.requires.3 c.requires.1, length-replicate {A = ℕ} most_numbers 0)
+    let p = c.requires in
+    (p.0, p.2, few_marked p.0 p.3 p.1, length-replicate {A = ℕ} most_numbers 0)
 
 -- how many leaves are left
 fewer : (c : After-span_rows-m) → c.span_rows-m.result ≡ c.args.n - 1

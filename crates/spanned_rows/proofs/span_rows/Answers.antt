@@ -21,7 +21,8 @@ join_rows-joined-requires c =
 pub write_chain-requires : goal.write_chain-requires
 write_chain-requires c =
     let n = c.number_leaves-m.ensures in
-    span_fits _ c.requires.0 c.requires.1 (rw n.count c.requires.2) n.count (c.join_rows-joined.ensures _ n.each n.count)
+    let p = c.requires in
+    span_fits _ p.0 p.1 (rw n.count p.2) n.count (c.join_rows-joined.ensures _ n.each n.count)
 
 pub returns : goal.returns
 returns c =

@@ -25,7 +25,9 @@ least_of-requires c =
 
 pub least_of-requires-2 : goal.least_of-requires-2
 least_of-requires-2 c =
-    let p = c.requires.0 in (p.count, omega (arith, (this (goal.at.least_of-requires-2 c).After-row_at-r).second_before, p))
+    let p = c.requires.0 in
+    let r = this (goal.at.least_of-requires-2 c).After-row_at-r in
+    (p.count, omega (arith, r.second_before, p))
 
 -- what is known of the least leaves under the two children
 known :

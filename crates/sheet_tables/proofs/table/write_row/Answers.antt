@@ -49,7 +49,8 @@ module _ (c : After-write_row) where
 
   row_put :
       let cells = packed_cells c.args.n c.args.packed.now in
-      at + c.args.n ≤ length c.args.out.now → c.write_row.new.out ≡ filled c.args.n (mirrored c.args.n cells c.args.i) part
+      at + c.args.n ≤ length c.args.out.now
+      → c.write_row.new.out ≡ filled c.args.n (mirrored c.args.n cells c.args.i) part
   row_put e = c.write_row.ensures ∙ row_read _ _ c.requires.0 _ part c.requires.1 (enough c.requires.1 e)
 
 pub returns : goal.returns

@@ -9,7 +9,8 @@ use Rattle.sheet_tables.proofs.table.write_table.Given as goal
 
 abbrev pub invariant-loop-i : goal.invariant-loop-i
 invariant-loop-i l =
-    (l.i ≤ l.n) × (length l.out ≡ length l.initial.out) × (l.out ≡ filled (l.i * l.n) (table_rule l.n (packed_cells l.n l.packed)) l.initial.out)
+    (l.i ≤ l.n) × (length l.out ≡ length l.initial.out)
+    × (l.out ≡ filled (l.i * l.n) (table_rule l.n (packed_cells l.n l.packed)) l.initial.out)
 
 abbrev pub decreases-loop-i : goal.decreases-loop-i
 decreases-loop-i l = l.n - l.i

@@ -42,7 +42,8 @@ unfolding leaves combined
 made c =
     let l = c.loop-k in
     let s = c.args in
-    node_made set_of_subtree [] s.n s.rows.now (this (goal.at.overflow_add-under c).After-row_at-r) l.under _ l.invariant.3
+    let row = this (goal.at.overflow_add-under c).After-row_at-r in
+    node_made set_of_subtree [] s.n s.rows.now row l.under _ l.invariant.3
     (λ a b. c.combine-s.ensures ∙ ap₂ (λ v w. bytes_of (combined Union (set_of v) (set_of w))) a b
     ∙ combined_held Union _ _)
 
@@ -64,10 +65,14 @@ pub bounds-under-i : goal.bounds-under-i
 bounds-under-i c = omega (arith, (this c).first_before, counted c)
 
 pub offset_bounds-under-j : goal.offset_bounds-under-j
-offset_bounds-under-j c = omega (arith, (this (goal.at.offset_bounds-under-j c).After-row_at-r).second_before, counted (goal.at.offset_bounds-under-j c).After-row_at-r)
+offset_bounds-under-j c =
+    let here = (goal.at.offset_bounds-under-j c).After-row_at-r in
+    omega (arith, (this here).second_before, counted here)
 
 pub bounds-under-j : goal.bounds-under-j
-bounds-under-j c = omega (arith, (this (goal.at.bounds-under-j c).After-row_at-r).second_before, counted (goal.at.bounds-under-j c).After-row_at-r)
+bounds-under-j c =
+    let here = (goal.at.bounds-under-j c).After-row_at-r in
+    omega (arith, (this here).second_before, counted here)
 
 pub put_set-requires : goal.put_set-requires
 put_set-requires c =

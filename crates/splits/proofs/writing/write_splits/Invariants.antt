@@ -11,7 +11,8 @@ use Rattle.splits.proofs.writing.write_splits.Given as goal
 
 abbrev pub invariant-loop-k : goal.invariant-loop-k
 invariant-loop-k l =
-    (l.k ≤ l.n - 3) × (length l.out ≡ length l.initial.out) × (length l.under ≡ most_nodes) × Seen set_of_subtree [] l.n l.rows l.under (l.n + l.k)
+    (l.k ≤ l.n - 3) × (length l.out ≡ length l.initial.out) × (length l.under ≡ most_nodes)
+    × Seen set_of_subtree [] l.n l.rows l.under (l.n + l.k)
     × (l.out ≡ node_sets l.n l.rows l.k ++ drop (set_bytes * l.k) l.initial.out)
 
 abbrev pub decreases-loop-k : goal.decreases-loop-k
