@@ -22,10 +22,10 @@ unfolding shown_by
 returns-in_default c =
     let side = c.args.side in
     rw (
-      ne_eqb side 3 (omega arith),
-      ne_eqb side 12 (omega arith),
-      ne_eqb side 5 (omega arith),
-      ne_eqb side 10 (omega arith),
-      ne_eqb side 6 (omega arith),
-      ne_eqb side 9 (omega arith),
+      ne_eqb side 3 (grind arith),
+      ne_eqb side 12 (grind arith),
+      ne_eqb side 5 (grind arith),
+      ne_eqb side 10 (grind arith),
+      ne_eqb side 6 (grind arith),
+      ne_eqb side 9 (grind arith),
     )
