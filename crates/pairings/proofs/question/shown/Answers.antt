@@ -1,5 +1,6 @@
 -- `pairings::question::shown` meets its contract: the six sets of two leaves, pairing by pairing.
 use mathlib.Core.Logic.{inl, inr}
+use native.Mathlib.Omega.{arith}
 use borrow.Author.Tests.{ne_eqb}
 use Rattle.pairings.specs.inner.Sides.{shown_by}
 use Rattle.pairings.proofs.question.shown.Goals as goal
@@ -19,13 +20,12 @@ returns-in-6 c = elim c.in-6.is [ inl e ↦ rw e | inr e ↦ rw e ]
 pub returns-in_default : goal.returns-in_default
 unfolding shown_by
 returns-in_default c =
-    let r = c.in_default.in_default-own.rest in
     let side = c.args.side in
     rw (
-      ne_eqb side 3 (λ e. r.0.0.1 (inl e)),
-      ne_eqb side 12 (λ e. r.0.0.1 (inr e)),
-      ne_eqb side 5 (λ e. r.0.1 (inl e)),
-      ne_eqb side 10 (λ e. r.0.1 (inr e)),
-      ne_eqb side 6 (λ e. r.1 (inl e)),
-      ne_eqb side 9 (λ e. r.1 (inr e)),
+      ne_eqb side 3 (grind arith),
+      ne_eqb side 12 (grind arith),
+      ne_eqb side 5 (grind arith),
+      ne_eqb side 10 (grind arith),
+      ne_eqb side 6 (grind arith),
+      ne_eqb side 9 (grind arith),
     )

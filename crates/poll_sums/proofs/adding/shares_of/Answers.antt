@@ -1,15 +1,10 @@
 -- `poll_sums::adding::shares_of` meets its contract: each code has its row of shares, and a code above 6 has none.
 use mathlib.Core.Path.{◌≡◌}
-use mathlib.Core.Logic.{◌≢◌}
-use Prim.Native.Nat.{ℕ, ◌+◌, ◌≤◌, zero-le}
+use Prim.Native.Nat.{ℕ, ◌≤◌}
 use native.Mathlib.Omega.{arith}
 use Rattle.poll_rules.specs.Counts.{shares, share}
 use Rattle.poll_rules.proofs.Counts.{share_over}
 use Rattle.poll_sums.proofs.adding.shares_of.Goals as goal
-
--- a number that is none of the first
-above : (m x : ℕ) → m ≤ x → x ≢ m → m + 1 ≤ x
-above m x h g = omega arith
 
 pub returns-in-0 : goal.returns-in-0
 unfolding share shares
@@ -42,19 +37,6 @@ returns-in-6 c = rw c.in-6.is c.in_one-in-6.ensures
 pub returns-in_default : goal.returns-in_default
 returns-in_default c =
     let code = c.args.code in
-    let six = c.in_default.in_default-own.rest in
-    let five = six.0 in
-    let four = five.0 in
-    let three = four.0 in
-    let two = three.0 in
-    let one = two.0 in
-    let zero = one.0 in
-    let past-0 = above 0 code zero-le zero.1 in
-    let past-1 = above 1 code past-0 one.1 in
-    let past-2 = above 2 code past-1 two.1 in
-    let past-3 = above 3 code past-2 three.1 in
-    let past-4 = above 4 code past-3 four.1 in
-    let past-5 = above 5 code past-4 five.1 in
-    let over = above 6 code past-5 six.1 in
+    let over : 7 ≤ code = omega arith in
     let none : (p : ℕ) → share code p ≡ 0 = λ p. share_over code p over in
     rw (none 0, none 1, none 2) c.in_one-in_default.ensures
