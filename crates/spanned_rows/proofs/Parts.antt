@@ -13,7 +13,7 @@ use lib.ListN.{length, length-append}
 use Rattle.base.specs.Numbers.{indicator}
 use Rattle.base.proofs.Bools.{bool?, never, is_false, or_left, or_right, or_cases, and_both}
 use Rattle.limits.specs.Limits.{most_leaves, IsLeafCount}
-use Rattle.trees.specs.Trees.{Tree, leaf, node, LeafSet, leaves}
+use Rattle.trees.specs.Trees.{Tree, leaf, node, LeafSet}
 use Rattle.trees.specs.Listings.{KeepsRules, with_rows, subtree_at, tree_of}
 use Rattle.trees.specs.Renumbering.{renumbered}
 use Rattle.trees.specs.inner.Forests.{unused, use_row, uses, lawful}
@@ -22,7 +22,7 @@ use Rattle.trees.proofs.Forests.{Forest, forest_start, lawful_forest, live_old, 
 use Rattle.trees.proofs.Rules.{to_lawful, listing_tree}
 use Rattle.trees.proofs.SubtreesByRow.{subtree_at_leaf}
 use Rattle.trees.proofs.AddedRows.{row_kept, after_row, node_unused, subtree_at_new, subtree_at_old}
-use Rattle.spanned_trees.specs.Spans.{meets, kept, rank}
+use Rattle.spanned_trees.specs.Spans.{meets, rank}
 use Rattle.spanned_trees.proofs.Kept.{meets_leaf, meets_node, kept_leaf, kept_both, kept_first, kept_second}
 use Rattle.spanned_trees.proofs.Spans.{some_stay}
 use Rattle.rerooted_rows.specs.inner.Joining.{copies, joined_number, joined_chain, joined_rows, joined_count}

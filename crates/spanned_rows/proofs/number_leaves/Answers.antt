@@ -1,6 +1,5 @@
 -- `spanned_rows::number_leaves` meets its contract: the first k leaves are numbered.
 use native.Mathlib.Omega.{arith}
-use Prim.Native.Nat.{◌-◌}
 use Rattle.spanned_rows.proofs.Arrays.{numbering_start, numbering_low, numbering_more, numbering_end}
 use Rattle.spanned_rows.proofs.number_leaves.Goals as goal
 

@@ -1,6 +1,6 @@
 -- `total_gaps::total_gap` meets its contract: the rows of the leaves at the places before p are added up.
 use mathlib.Core.Path.{refl, ◌∙◌}
-use Prim.Native.Nat.{◌-◌, ◌<◌}
+use Prim.Native.Nat.{◌<◌}
 use native.Mathlib.Omega.{arith}
 use Rattle.base.specs.Numbers.{sum_below}
 use Rattle.limits.proofs.TableKinds.{scale_bounds}

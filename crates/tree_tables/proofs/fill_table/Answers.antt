@@ -1,6 +1,5 @@
 -- `tree_tables::fill_table` meets its contract: the rows of the leaves at the places before p are written.
 use mathlib.Core.Path.{refl}
-use Prim.Native.Nat.{◌-◌}
 use native.Mathlib.Omega.{arith}
 use Rattle.trees.specs.Tables.{table_of}
 use Rattle.least_depths.proofs.Rows.{tops_none, tops_more}

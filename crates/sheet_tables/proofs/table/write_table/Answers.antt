@@ -1,6 +1,6 @@
 -- `sheet_tables::table::write_table` meets its contract: after i turns the rows before row i stand in the buffer.
 use mathlib.Core.Path.{◌≡◌, refl, sym, ◌∙◌}
-use Prim.Native.Nat.{◌+◌, ◌-◌, ◌*◌}
+use Prim.Native.Nat.{◌+◌, ◌*◌}
 use native.Mathlib.Nat.{zero-mul}
 use native.Mathlib.Omega.{arith}
 use Rattle.base.proofs.Filling.{filled_none}

@@ -1,6 +1,5 @@
 -- `sheet_trees::bytes::write_bytes` meets its contract: after k turns the first k bytes are at the front of the buffer.
 use mathlib.Core.Path.{◌≡◌, sym, ◌∙◌, ap}
-use Prim.Native.Nat.{◌-◌}
 use native.Mathlib.Omega.{arith}
 use lib.ListN.{length}
 use Rattle.base.proofs.Filling.{filled_none, filled_more, length_filled}

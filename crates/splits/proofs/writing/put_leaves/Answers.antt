@@ -1,6 +1,5 @@
 -- `splits::writing::put_leaves` meets its contract: before turn k the first k entries are known.
 use mathlib.Core.List.{[]}
-use Prim.Native.Nat.{◌-◌}
 use native.Mathlib.Omega.{arith}
 use lib.ListN.{length-set}
 use Rattle.base.proofs.Filling.{known_more}
