@@ -1,5 +1,7 @@
 // The sizes of the gaps between a new table and a tree's own, added up over the cells of two sets of leaves, each leaf
 // having the class of its set. A row is gone through whole, so that there is no branch in it.
+#![tactic(auto)]
+
 ghost use Rattle.std.specs.Prelude.{◌≡◌, ◌≤◌, ◌<◌, eqb};
 ghost use Rattle.base.specs.Numbers.{indicator};
 ghost use Rattle.limits.specs.Limits.{most_leaves};

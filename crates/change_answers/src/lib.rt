@@ -1,4 +1,5 @@
 // The changes of a tree: the answers of graft and prune, and what follows of them. There is no code here.
+#![tactic(auto)]
 
 // A change of a tree on n leaves.
 #[derive(Clone, Copy)]

@@ -1,5 +1,7 @@
 // What is judged before a tree is changed: sizes, rules and cells, what is named, and whether the table is the tree's
 // own.
+#![tactic(auto)]
+
 ghost use Rattle.std.specs.Prelude.{◌≡◌, ◌&&◌, ◌*◌, length};
 ghost use Rattle.limits.specs.Limits.{IsLeafCount};
 ghost use Rattle.refusals.specs.Refusals.{outcome_of};

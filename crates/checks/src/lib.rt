@@ -1,4 +1,6 @@
 // What is judged of sizes and questions: 1, 2, 3 and 9; and how long a listing, a table and splits are due to be.
+#![tactic(auto)]
+
 ghost use Rattle.std.specs.Prelude.{◌≡◌, ◌-◌, ◌*◌};
 ghost use Rattle.limits.specs.declared.Kind.TheVariants.{Counts};
 ghost use Rattle.limits.specs.Limits.{IsLeafCount, set_bytes};

@@ -128,7 +128,8 @@ module _ {n s : ℕ} {l t u p : List ℕ} (g : Given n s l t u p) where
     at_last = get_or-set_same rows (2 * n - 3) r 0 (omega (arith, w.rows_long, g.count)) ∙ is;
   }
     where
-      other : (q : ℕ) → q < 2 * (n - 2) → get_or (set rows (2 * n - 3) r) (get_or l q 0) 0 ≡ get_or rows (get_or l q 0) 0
+      other : (q : ℕ) → q < 2 * (n - 2) → get_or (set rows (2 * n - 3) r) (get_or l q 0) 0
+          ≡ get_or rows (get_or l q 0) 0
       other q h =
           get_or-set_other rows (2 * n - 3) (get_or l q 0) r 0
           (omega (arith, child_range n l g.count g.keeps q h))

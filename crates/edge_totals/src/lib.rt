@@ -1,6 +1,8 @@
 // The total gap to a new table for every edge that leaf n can be grafted on. The rows of the standard listing are gone
 // through as merges, and at each it is weighed what moving leaf n from the edge above the node to those above its
 // children adds to the total gap and takes from it. Then the totals are found from the last row down.
+#![tactic(auto)]
+
 ghost use Rattle.std.specs.Prelude.{◌≡◌, ℕ, ◌+◌, ◌-◌, ◌*◌, ◌≤◌, ◌<◌, length, get_or, set};
 ghost use Rattle.base.specs.Lists.{filled};
 ghost use Rattle.limits.specs.Limits.{most_nodes};

@@ -262,7 +262,8 @@ module _ {n s : ℕ} {l t u p : List ℕ} (g : Given n s l t u p) {k : ℕ} (row
       differ_new : (e : ℕ) → Free n l k e → e ≢ x → get_or firsts' (n + k) 0 ≢ get_or firsts' e 0
       differ_new e f other = rw (first_new, first_old e f.made) (w.differ x e x_free f (λ q. other (sym q)))
 
-      differ_next : (e c : ℕ) → Free n l (k + 1) e → Free n l (k + 1) c → e ≢ c → get_or firsts' e 0 ≢ get_or firsts' c 0
+      differ_next : (e c : ℕ) → Free n l (k + 1) e → Free n l (k + 1) c → e ≢ c
+          → get_or firsts' e 0 ≢ get_or firsts' c 0
       differ_next e c f h other same = elim (free_before f) [
         | inl new_e ↦ elim (free_before h) [
           | inl new_c ↦ omega arith

@@ -1,6 +1,8 @@
 // What moving leaf n down an edge adds to the total gap to a new table, and what it takes from it. Before a row of the
 // standard listing is gone through as a merge, its two children are the sets of leaves with two labels. Where leaf n
 // moves from the edge above the row's node to that above a child, two blocks of cells change, and its own row.
+#![tactic(auto)]
+
 ghost use Rattle.std.specs.Prelude.{◌≡◌, ◌+◌, ◌-◌, ◌≤◌, ◌<◌};
 ghost use Rattle.limits.specs.Limits.{most_leaves};
 ghost use Rattle.trees.specs.Tables.{IsTable};

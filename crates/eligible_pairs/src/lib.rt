@@ -1,5 +1,7 @@
 // Whether two subtrees may be merged: each pair of a leaf of one and a leaf of the other has the cell that is expected.
 // The table is lent as cells, `table`, or in bytes, `packed`. For the crates of the rebuilds.
+#![tactic(auto)]
+
 ghost use Rattle.std.specs.Prelude.{◌≡◌, ◌↔◌, true, ◌*◌, ◌<◌, ◌≤◌, eqb, length};
 ghost use Rattle.base.specs.Numbers.{indicator, count_below};
 ghost use Rattle.limits.specs.Limits.{most_leaves};

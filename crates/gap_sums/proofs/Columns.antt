@@ -162,7 +162,8 @@ module _ {n : ℕ} {label m sizes p : List ℕ} {a : ℕ} (f : SumsFit n label m
   -- the columns of a subtree other than a add up to its gaps
   pub columns_sum :
       {t columns : List ℕ} → ColumnsFound n t label m a due columns → (k : ℕ) → k ≢ a
-      → sum_below n (λ y. indicator (eqb (get_or label y 0) k) (get_or columns y 0)) ≡ subtree_gaps n t label m sizes p a k
+      → sum_below n (λ y. indicator (eqb (get_or label y 0) k) (get_or columns y 0))
+      ≡ subtree_gaps n t label m sizes p a k
   unfolding subtree_gaps
   columns_sum {t} {columns} c k d = sum_ext n _ _ (λ y ly. indicator_when (eqb (get_or label y 0) k) _ _ (λ q.
       let is_k = eqb-true (get_or label y 0) k q in

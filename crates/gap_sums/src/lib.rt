@@ -1,6 +1,8 @@
 // The sums of a guess: of two subtrees, the sizes of the gaps of their cells from the values expected, added up. They
 // are kept for each two subtrees; after a merge those of the newest subtree alone are worked anew. For the crates of
 // the guess.
+#![tactic(auto)]
+
 ghost use Rattle.std.specs.Prelude.{◌≡◌, ◌≢◌, List, ℕ, ◌+◌, ◌-◌, ◌*◌, ◌<◌, ◌≤◌, eqb, length, get_or, set, replicate};
 ghost use Rattle.base.specs.Numbers.{indicator, sum_below, distance};
 ghost use Rattle.base.specs.Lists.{filled};

@@ -1,5 +1,7 @@
 // The gap between a table and a tree, written row by row: each row of the tree's table is taken from the same row of
 // the other.
+#![tactic(auto)]
+
 ghost use Rattle.std.specs.Prelude.{◌≡◌, ◌++◌, ◌*◌, ◌≤◌, pos, ◌-ℤ◌, length, drop};
 ghost use Rattle.limits.specs.Limits.{most_cells, most_scale, scale_of, IsLeafCount};
 ghost use Rattle.refusals.specs.Refusals.{outcome_of, outcome, written};

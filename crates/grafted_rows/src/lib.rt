@@ -1,6 +1,8 @@
 // The rows of a tree with a leaf grafted on. The nodes of the standard listing are written anew in post-order, by a
 // recursion that returns the next row and the number that the subtree now has; above the subtree whose number names the
 // edge, one more row is written, with the new leaf.
+#![tactic(auto)]
+
 ghost use Rattle.std.specs.Prelude.{◌≡◌, true, ◌++◌, ℕ, ◌+◌, ◌-◌, ◌*◌, ◌≤◌, ◌<◌, length, set, drop};
 ghost use Rattle.limits.specs.Limits.{IsLeafCount};
 ghost use Rattle.trees.specs.Trees.{Tree};

@@ -1,1 +1,2 @@
 // Grafting: definitions and laws. There is no code here.
+#![tactic(auto)]

@@ -57,35 +57,37 @@ module _ {n s : ℕ} {S : State} (w : WellFormed n S) {label m sizes : List ℕ}
         }
 
     -- the gaps of two labels are those of their subtrees
-    module _ (a b : ℕ) (la : a < n) (lb : b < n) (oa : get_or label a 0 ≡ a) (ob : get_or label b 0 ≡ b) (d : a ≢ b) where
-      due_is :
-          (x y : ℕ) → x < n → y < n → get_or label y 0 ≡ b
-          → due_at n label m sizes p a y + get_or m x 0 ≡ expected n s S (S.tree a) (S.tree b) x y
-      unfolding due_at expected
-      due_is x y lx ly q =
-          rw (q, ne_eqb b a (λ z. d (sym z))) (omega (arith, expected_is w h g a b la lb oa ob x y lx ly))
+    module _ (a b : ℕ) (la : a < n) (lb : b < n) (oa : get_or label a 0 ≡ a) (ob : get_or label b 0 ≡ b) (d : a ≢ b)
+      where
+        due_is :
+            (x y : ℕ) → x < n → y < n → get_or label y 0 ≡ b
+            → due_at n label m sizes p a y + get_or m x 0 ≡ expected n s S (S.tree a) (S.tree b) x y
+        unfolding due_at expected
+        due_is x y lx ly q =
+            rw (q, ne_eqb b a (λ z. d (sym z))) (omega (arith, expected_is w h g a b la lb oa ob x y lx ly))
 
-      one :
-          (x y : ℕ) → x < n → y < n
-          → indicator (eqb (get_or label y 0) b && eqb (get_or label x 0) a)
-          (distance (cell n t x y) (due_at n label m sizes p a y + get_or m x 0))
-          ≡ indicator (leaves (S.tree a) x && leaves (S.tree b) y)
-          (distance (cell n t x y) (expected n s S (S.tree a) (S.tree b) x y))
-      one x y lx ly =
-          rw (
-            label_test a la oa x lx,
-            label_test b lb ob y ly,
-            and_comm (eqb (get_or label x 0) a) (eqb (get_or label y 0) b),
-          )
-          (indicator_when (eqb (get_or label y 0) b && eqb (get_or label x 0) a) _ _ (λ u.
-          let q = eqb-true (get_or label y 0) b (and_both (eqb (get_or label y 0) b) (eqb (get_or label x 0) a) u).0 in
-          ap (distance (cell n t x y)) (due_is x y lx ly q)))
+        one :
+            (x y : ℕ) → x < n → y < n
+            → indicator (eqb (get_or label y 0) b && eqb (get_or label x 0) a)
+            (distance (cell n t x y) (due_at n label m sizes p a y + get_or m x 0))
+            ≡ indicator (leaves (S.tree a) x && leaves (S.tree b) y)
+            (distance (cell n t x y) (expected n s S (S.tree a) (S.tree b) x y))
+        one x y lx ly =
+            rw (
+              label_test a la oa x lx,
+              label_test b lb ob y ly,
+              and_comm (eqb (get_or label x 0) a) (eqb (get_or label y 0) b),
+            )
+            (indicator_when (eqb (get_or label y 0) b && eqb (get_or label x 0) a) _ _ (λ u.
+            let q =
+            eqb-true (get_or label y 0) b (and_both (eqb (get_or label y 0) b) (eqb (get_or label x 0) a) u).0 in
+            ap (distance (cell n t x y)) (due_is x y lx ly q)))
 
-      pub subtree_gaps_are :
-          subtree_gaps n t label m sizes p a b ≡ gap_sum n s (cell n t) S (S.tree a) (S.tree b)
-      unfolding subtree_gaps leaf_gaps gap_in gap_sum
-      subtree_gaps_are =
-          sum_ext n _ _ (λ y ly. indicator_each (eqb (get_or label y 0) b) n (λ x. eqb (get_or label x 0) a) _
-          ∙ sum_ext n _ _ (λ x lx. one x y lx ly))
-          ∙ sym (sum_swap n n (λ x y. indicator (leaves (S.tree a) x && leaves (S.tree b) y)
-          (distance (cell n t x y) (expected n s S (S.tree a) (S.tree b) x y))))
+        pub subtree_gaps_are :
+            subtree_gaps n t label m sizes p a b ≡ gap_sum n s (cell n t) S (S.tree a) (S.tree b)
+        unfolding subtree_gaps leaf_gaps gap_in gap_sum
+        subtree_gaps_are =
+            sum_ext n _ _ (λ y ly. indicator_each (eqb (get_or label y 0) b) n (λ x. eqb (get_or label x 0) a) _
+            ∙ sum_ext n _ _ (λ x lx. one x y lx ly))
+            ∙ sym (sum_swap n n (λ x y. indicator (leaves (S.tree a) x && leaves (S.tree b) y)
+            (distance (cell n t x y) (expected n s S (S.tree a) (S.tree b) x y))))

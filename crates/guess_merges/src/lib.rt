@@ -1,5 +1,7 @@
 // The merges of a guess, and the table of the tree that they make: each merge takes the pair of subtrees with the
 // smallest mean, and writes the values expected of the cells that it brings together. For the crate of the guess.
+#![tactic(auto)]
+
 ghost use Rattle.std.specs.Prelude.{◌≡◌, ◌≢◌, ℕ, ◌+◌, ◌-◌, ◌<◌, ◌≤◌, get_or};
 ghost use Rattle.limits.specs.Limits.{most_leaves};
 ghost use Rattle.packed_tables.specs.Packed.{Packed};

@@ -1,4 +1,6 @@
 // The reply of a C call that makes a guess, and the number of its answer.
+#![tactic(auto)]
+
 ghost use Rattle.std.specs.Prelude.{◌≡◌};
 ghost use Rattle.guess_replies.specs.inner.Outcomes.{guess_outcome_reply, guess_outcome_number};
 

@@ -1,5 +1,7 @@
 // The guess for a table: its tree, written as the standard listing, and its total gap. The merges write the table of
 // the tree; our rebuild of that table writes the listing. For the crates above.
+#![tactic(auto)]
+
 ghost use Rattle.std.specs.Prelude.{◌≡◌, ◌-◌, ◌*◌, ◌≤◌, length};
 ghost use Rattle.limits.specs.Limits.{IsCountOf, scale_of};
 ghost use Rattle.refusals.specs.Refusals.{accepted, written};

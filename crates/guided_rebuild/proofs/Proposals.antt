@@ -121,7 +121,8 @@ module _ {n s : ℕ} {table p label m sizes : List ℕ} (g : Given n s table p)
     pub outside : leaves (S.tree x) k ≡ true
     pub own : get_or label x 0 ≡ x
 
-  label_of : {S : State} → HoldsReached n s table label m sizes S → (k x : ℕ) → k < n → x ≡ get_or label k 0 → Label S k x
+  label_of : {S : State} → HoldsReached n s table label m sizes S → (k x : ℕ) → k < n → x ≡ get_or label k 0
+      → Label S k x
   label_of {S} u k x lk e = record {
     within = lx;
     inside = x_in;

@@ -1,4 +1,6 @@
 // The guided rebuild: the proposals are followed one after the other, as far as each names an eligible pair.
+#![tactic(auto)]
+
 ghost use Rattle.std.specs.Prelude.{◌≡◌, ◌-◌, ◌*◌, ◌<◌, ◌≤◌, length, get_or};
 ghost use Rattle.limits.specs.Limits.{IsLeafCount, scale_of};
 ghost use Rattle.refusals.specs.Refusals.{outcome, written};

@@ -1,5 +1,7 @@
 // The merges of our own rebuild: which pairs are merged, in which order, and the rows of the listing that this makes.
 // The table is lent as cells, `table`, or in bytes, `packed`. For the crates of the rebuilds.
+#![tactic(auto)]
+
 ghost use Rattle.std.specs.Prelude.{◌≡◌, ◌+◌, ◌*◌, ◌<◌, ◌≤◌, get_or, set};
 ghost use Rattle.limits.specs.Limits.{most_leaves};
 ghost use Rattle.eligible_pairs.specs.inner.Lent.{lent_table};

@@ -1,6 +1,8 @@
 // The leaves of a tree in an order in which those of each subtree stand one after the other, what branches off on the
 // way down to each, and the depth between each two neighbours in the order. A pass up the rows of the listing counts
 // the leaves under each number, and a pass down gives each number its place.
+#![tactic(auto)]
+
 ghost use Rattle.std.specs.Prelude.{◌≡◌, ◌+◌, ◌*◌, ◌-◌, ◌<◌, ◌≤◌, length, replicate};
 ghost use Rattle.limits.specs.Limits.{most_leaves, most_nodes, IsLeafCount};
 ghost use Rattle.pair_counts.specs.Pairs.{P};

@@ -1,5 +1,7 @@
 // The least depth between a leaf's place and that of each other leaf: the depth of the node in which the two meet, the
 // top of the path between them. By it, and by what branches off above the two leaves, the count of a cell is found.
+#![tactic(auto)]
+
 ghost use Rattle.std.specs.Prelude.{◌≡◌, true, false, ℕ, ◌+◌, ◌-◌, ◌<◌, ◌≤◌, length, get_or, set};
 ghost use Rattle.limits.specs.Limits.{most_leaves};
 ghost use Rattle.leaf_orders.specs.inner.Orders.{most_sum, whole};

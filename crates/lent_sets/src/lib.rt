@@ -1,4 +1,6 @@
 // Leaf sets that are lent: judged, and then joined, intersected or compared.
+#![tactic(auto)]
+
 ghost use Rattle.std.specs.Prelude.{◌≡◌, length};
 ghost use Rattle.limits.specs.Limits.{set_bytes};
 ghost use Rattle.refusals.specs.Refusals.{outcome_of, outcome, written};

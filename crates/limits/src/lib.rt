@@ -1,5 +1,7 @@
 // The limit on the number of leaves, and the sizes that follow from it; and what kinds of tables there are, with their
 // scales. specs/Limits.antt has the same names.
+#![tactic(auto)]
+
 ghost use Rattle.std.specs.Prelude.{◌≡◌};
 ghost use Rattle.limits.specs.Limits.{scale_of, kind_of};
 

@@ -1,5 +1,7 @@
 // Looking before grafting: the total gap that the grafted tree would have to a new table, for a chosen edge and for all
 // of them. Nothing is written before all is judged, and neither the tree nor a table moves.
+#![tactic(auto)]
+
 ghost use Rattle.std.specs.Prelude.{◌≡◌, true, ◌+◌, ◌-◌, ◌*◌, ◌≤◌, length};
 ghost use Rattle.limits.specs.Limits.{IsLeafCount, IsCountOf};
 ghost use Rattle.base.specs.Lists.{filled};

@@ -1,6 +1,7 @@
 -- A tree even from a rough table (02, request 4): merges by the smallest mean size of gap, and what our own rebuild
 -- replies. As in Merging.antt, n is the number of leaves, s the table's scale, and cell (x, y) is c x y.
-use Rattle.std.specs.Prelude.{◌≡◌, ◌⊎◌, Bool, false, not, ◌&&◌, List, [], ◌∷◌, ℕ, zero, suc, ◌-◌, ◌*◌, ◌≤◌, ◌<◌, ltb, eqb}
+use Rattle.std.specs.Prelude.{◌≡◌, ◌⊎◌, Bool, false, not, ◌&&◌, List, [], ◌∷◌, ℕ, zero, suc, ◌-◌, ◌*◌, ◌≤◌, ◌<◌, ltb}
+use Rattle.std.specs.Prelude.{eqb}
 use Rattle.std.proofs.Math.Option.{Option, none, some}
 use Rattle.base.specs.Numbers.{indicator, sum_below, distance, Fraction, less}
 use Rattle.base.specs.Lists.{in_rows, all_in, find}

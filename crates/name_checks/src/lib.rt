@@ -1,4 +1,6 @@
 // The names of a sheet: whether each is good and equals no earlier one (15 and 16).
+#![tactic(auto)]
+
 ghost use Rattle.std.specs.Prelude.{◌≡◌, ◌+◌, ◌≤◌, length, take, drop};
 ghost use Rattle.std.proofs.Math.Option.{none};
 ghost use Rattle.base.specs.Lists.{all_in};

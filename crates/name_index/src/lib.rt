@@ -1,5 +1,7 @@
 // An index of the names of a sheet, so that a name is looked up by few comparisons: chains of leaves by the hashes of
 // their names. For the crates that judge names and look them up.
+#![tactic(auto)]
+
 ghost use Rattle.std.specs.Prelude.{◌≡◌, false, ◌+◌, ◌%◌, ◌<◌, ◌≤◌, length, get_or, set, take, drop};
 ghost use Rattle.base.specs.Lists.{tab};
 ghost use Rattle.limits.specs.Limits.{most_leaves};

@@ -1,5 +1,7 @@
 // The search for the pair of subtrees that a guess merges next. Each label keeps its partner: of the labels after it,
 // that with which its mean is smallest. A merge changes few of them. For the crates of the guess.
+#![tactic(auto)]
+
 ghost use Rattle.std.specs.Prelude.{◌≡◌, ◌≢◌, true, false, ℕ, ◌+◌, ◌<◌, ◌≤◌, length, get_or};
 ghost use Rattle.limits.specs.Limits.{most_leaves};
 ghost use Rattle.nearest_pairs.specs.inner.Nearest.{taken_before, TwoLabels, SearchFits, Rows, RowTo, Partner};

@@ -1,4 +1,6 @@
 // Export: the Newick text of the tree that a listing stands for, with the names of a sheet.
+#![tactic(auto)]
+
 ghost use Rattle.std.specs.Prelude.{◌≡◌, length};
 ghost use Rattle.std.proofs.Math.Option.{none};
 ghost use Rattle.refusals.specs.Refusals.{outcome_of, written};

@@ -1,4 +1,6 @@
 // Import: the standard listing of the tree that a Newick text draws, with the names of a sheet.
+#![tactic(auto)]
+
 ghost use Rattle.std.specs.Prelude.{◌≡◌, ◌-◌, ◌*◌, ◌≤◌, length};
 ghost use Rattle.limits.specs.Limits.{IsLeafCount};
 ghost use Rattle.refusals.specs.Refusals.{outcome, written};

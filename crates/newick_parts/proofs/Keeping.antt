@@ -292,8 +292,8 @@ module _ {known : List (List ℕ)} {n : ℕ} {o : Open} {s : List Open} {d : Dra
         let same : get_or parts (depth - 1) 0 + 1 ≡ ways (with_part o d) =
         rw (ways_here t) (sym (ways_with_part o d)) in
         let here_put =
-            subst (λ i. Piled (set parts i (get_or parts (depth - 1) 0 + 1))
-            ((get_or parts (depth - 1) 0 + 1) ∷ all_ways s)) here put in
+        subst (λ i. Piled (set parts i (get_or parts (depth - 1) 0 + 1))
+        ((get_or parts (depth - 1) 0 + 1) ∷ all_ways s)) here put in
         subst (λ w. Piled parts' (w ∷ all_ways s)) same here_put
 
     pub comma_unnamed :

@@ -1,4 +1,6 @@
 // What a bracket or a comma of a Newick text makes of what import keeps while it reads. For the crate of import.
+#![tactic(auto)]
+
 ghost use Rattle.std.specs.Prelude.{◌≡◌};
 ghost use Rattle.newick_parts.specs.inner.Parts.{PartFits, PartMade, PartEnds, PartAdded};
 ghost use Rattle.newick_parts.specs.inner.Parts.{BracketClosed, Comes, Came, goes_on_at, closes_at, unfit_kept};

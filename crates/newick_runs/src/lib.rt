@@ -1,5 +1,7 @@
 // Runs of bytes of a Newick text that are read in one go: those of a name, those of a length, blanks. For the crate of
 // import.
+#![tactic(auto)]
+
 ghost use Rattle.std.specs.Prelude.{◌≡◌, ◌≤◌, ◌<◌, length};
 ghost use Rattle.name_index.specs.inner.Hashes.{hashes};
 ghost use Rattle.newick_runs.specs.inner.Runs.{stays, Passed, Named, Ran};

@@ -1,5 +1,7 @@
 // The reader of Newick text, a byte at a time: the state behind a byte, and how many brackets are open behind it. The
 // states have the numbers of newick_reading's specs/inner/Moves.antt. The commonest bytes are tested first.
+#![tactic(auto)]
+
 ghost use Rattle.std.specs.Prelude.{◌≡◌, false, ◌≤◌};
 ghost use Rattle.newick_rules.specs.Reader.{blank, length_byte};
 ghost use Rattle.newick_rules.specs.Importing.{deepest};

@@ -1,5 +1,7 @@
 // A Newick text as import reads it: one pass, in which each name is looked up where it ends and rows are written as
 // brackets close. What is kept does not grow with the text. For the crate of import.
+#![tactic(auto)]
+
 ghost use Rattle.std.specs.Prelude.{◌≡◌, ◌<◌};
 ghost use Rattle.refusals.specs.Refusals.{outcome_of};
 ghost use Rattle.name_index.specs.inner.Hashes.{hashes};

@@ -1,5 +1,7 @@
 // The Newick text of a tree, written from left to right: each function returns the next place. A recursion over the
 // nodes, whose children stand in order, puts names, brackets and commas. Where each name starts, an array says.
+#![tactic(auto)]
+
 ghost use Rattle.std.specs.Prelude.{◌≡◌, List, [], ◌∷◌, ℕ, ◌+◌, ◌-◌, ◌*◌, ◌≤◌, ◌<◌, length, take, drop};
 ghost use Rattle.std.proofs.lemmas.List.Edits.{sets};
 ghost use Rattle.trees.specs.Listings.{tree_of};

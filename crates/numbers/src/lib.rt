@@ -1,4 +1,6 @@
 // Numbers as indices, how far two are apart, and an array that holds its own indices.
+#![tactic(auto)]
+
 ghost use Rattle.std.specs.Prelude.{◌≡◌, ◌^◌, ◌<◌, ◌≤◌, length};
 ghost use Rattle.base.specs.Numbers.{distance};
 ghost use Rattle.base.specs.Lists.{filled};

@@ -1,5 +1,7 @@
 // Our own rebuild: the tree of a table, by our own choice of merges. The table is lent as cells, `table`, or in bytes,
 // `packed`.
+#![tactic(auto)]
+
 ghost use Rattle.std.specs.Prelude.{◌≡◌, ◌↔◌, true, ◌-◌, ◌*◌, ◌≤◌, length};
 ghost use Rattle.limits.specs.Limits.{most_leaves, IsLeafCount, scale_of};
 ghost use Rattle.refusals.specs.Refusals.{outcome, written};

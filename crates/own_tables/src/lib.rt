@@ -1,4 +1,6 @@
 // Whether a table is a tree's own, judged row by row, in the order of the places of the leaves.
+#![tactic(auto)]
+
 ghost use Rattle.std.specs.Prelude.{◌≡◌, ◌*◌, ◌≤◌, eqb, length};
 ghost use Rattle.base.specs.Numbers.{indicator};
 ghost use Rattle.limits.specs.Limits.{IsLeafCount};

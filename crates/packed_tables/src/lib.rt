@@ -1,4 +1,6 @@
 // Packed tables: whether bytes are one, and a cell and a row of one.
+#![tactic(auto)]
+
 ghost use Rattle.std.specs.Prelude.{◌≡◌};
 ghost use Rattle.packed_tables.specs.Operations.{is_packed, packed_cell, with_packed_row};
 

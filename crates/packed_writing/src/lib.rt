@@ -1,4 +1,6 @@
 // Writing a cell of a packed table: its two bytes, which are those of its mirror cell too.
+#![tactic(auto)]
+
 ghost use Rattle.std.specs.Prelude.{◌≢◌, ◌<◌};
 ghost use Rattle.packed_tables.specs.Packed.{Packed};
 ghost use Rattle.packed_writing.specs.inner.Writing.{CellPut};

@@ -1,3 +1,5 @@
+#![tactic(auto)]
+
 ghost use Rattle.std.specs.Prelude.{◌≡◌, ◌+◌};
 ghost use Rattle.base.specs.Lists.{tab};
 ghost use Rattle.limits.specs.Limits.{most_leaves};

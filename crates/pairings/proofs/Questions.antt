@@ -43,5 +43,6 @@ module _ (n : ℕ) (q : List ℕ) where
 
       differ : (i p : ℕ) → i < p → p < length q → get_or q i 0 ≢ get_or q p 0
       differ i p li lp e =
-          never (any_before (eqb (get_or q p 0)) 0 q p i (omega arith) li (eq-eqb (get_or q p 0) (get_or q i 0) (sym e)))
+          never (any_before (eqb (get_or q p 0)) 0 q p i (omega arith) li
+          (eq-eqb (get_or q p 0) (get_or q i 0) (sym e)))
           (good p lp).1

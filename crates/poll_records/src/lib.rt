@@ -1,5 +1,7 @@
 // The records of a poll, judged: its sizes, and a record against the quartet due. The quartets in their order, with
 // what is ready for the record of the one due.
+#![tactic(auto)]
+
 ghost use Rattle.std.specs.Prelude.{◌≡◌, ◌≤◌};
 ghost use Rattle.limits.specs.declared.Kind.TheVariants.{Poll};
 ghost use Rattle.limits.specs.Limits.{most_polled, IsCountOf};

@@ -1,4 +1,5 @@
 // Polls: the record and the quartet. The rules and their laws stand in specs/ and proofs/; there is no code here.
+#![tactic(auto)]
 
 // One record of a poll: four leaves a < b < c < d, and a pairing code.
 #[repr(C)]

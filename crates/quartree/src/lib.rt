@@ -1,4 +1,6 @@
 // The C interface (include/quartree.h): one thin entry for each operation that C calls, and the version.
+#![tactic(auto)]
+
 ghost use Rattle.std.specs.Prelude.{◌≡◌, ◌+◌, ◌*◌, length};
 ghost use Rattle.limits.specs.Limits.{kind_of};
 ghost use Rattle.versions.specs.Versions.{version_number};

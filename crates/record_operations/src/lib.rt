@@ -1,4 +1,6 @@
 // The operations that make tree records: each marks the tree that an operation below it writes with its origin.
+#![tactic(auto)]
+
 ghost use Rattle.std.specs.Prelude.{◌≡◌, length};
 ghost use Rattle.refusals.specs.Refusals.{written};
 ghost use Rattle.refusals.specs.Meanings.{Gives};

@@ -1,4 +1,6 @@
 // The reply of a C call that makes a tree record.
+#![tactic(auto)]
+
 ghost use Rattle.std.specs.Prelude.{◌≡◌};
 ghost use Rattle.record_replies.specs.inner.Outcomes.{tree_outcome_reply};
 

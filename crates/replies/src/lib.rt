@@ -1,4 +1,6 @@
 // The reply of a C call: the number of a refusal, or 0, and a figure, in one number of 64 bits.
+#![tactic(auto)]
+
 ghost use Rattle.std.specs.Prelude.{◌≡◌, ◌+◌, ◌*◌, ◌%◌, ◌<◌};
 ghost use Rattle.refusals.specs.Refusals.{figures_of};
 ghost use Rattle.replies.specs.Replies.{eight_bits, figure_limit, figure, in_one, refusal_reply};

@@ -1,5 +1,7 @@
 // The rows of a tree rerooted at leaf 0, written while its subtrees are joined: what lies beside leaf 0's way to the
 // top waits in a chain, of which the last rows are made.
+#![tactic(auto)]
+
 ghost use Rattle.std.specs.Prelude.{◌≡◌, ◌+◌, ◌-◌, ◌*◌, length, take};
 ghost use Rattle.limits.specs.Limits.{most_numbers};
 ghost use Rattle.rerooted_rows.specs.inner.Arrays.{JoinFits, Joins, with_chain, ChainFits};

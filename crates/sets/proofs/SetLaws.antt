@@ -100,7 +100,8 @@ module _ (a b : List ℕ) (ha : AreCells 8 set_bytes a) (hb : AreCells 8 set_byt
   join_by_bytes = combined_cells Union 8 set_bytes a b ha hb
 
   pub intersect_by_bytes :
-      bytes_of (combined Intersection (set_of a) (set_of b)) ≡ tab set_bytes (λ i. bit_and (get_or a i 0) (get_or b i 0))
+      bytes_of (combined Intersection (set_of a) (set_of b))
+      ≡ tab set_bytes (λ i. bit_and (get_or a i 0) (get_or b i 0))
   intersect_by_bytes = combined_cells Intersection 8 set_bytes a b ha hb
 
   pub equal_by_bytes : same_set (set_of a) (set_of b) ≡ all_below set_bytes (λ i. eqb (get_or a i 0) (get_or b i 0))

@@ -39,7 +39,8 @@ module _ (s : List ℕ) (b : AreCells 8 set_bytes s) (i : ℕ) where
 
   pub byte_above :
       (j word : ℕ) → j < 8 → word ≡ from_bits (8 * j) (λ t. set_of s (64 * i + t))
-      → bit_or word (get_or s (8 * i + j) 0 * 2 ^ (8 * j) % 2 ^ 64) ≡ from_bits (8 * (j + 1)) (λ t. set_of s (64 * i + t))
+      → bit_or word (get_or s (8 * i + j) 0 * 2 ^ (8 * j) % 2 ^ 64)
+      ≡ from_bits (8 * (j + 1)) (λ t. set_of s (64 * i + t))
   byte_above j word l e =
       let f : ℕ → Bool = λ t. set_of s (64 * i + t) in
       let x = get_or s (8 * i + j) 0 in

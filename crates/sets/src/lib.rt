@@ -1,4 +1,6 @@
 // Leaf sets by value, sixteen bytes, one bit a leaf: joined, intersected and compared a word at a time.
+#![tactic(auto)]
+
 ghost use Rattle.std.specs.Prelude.{◌≡◌, ◌++◌, ◌+◌, ◌≤◌, length, take, drop};
 ghost use Rattle.limits.specs.Limits.{set_bytes};
 ghost use Rattle.trees.specs.Trees.{leaf, leaves};

@@ -1,4 +1,6 @@
 // A strain's name: its bytes, and where they stand in the sheet.
+#![tactic(auto)]
+
 ghost use Rattle.std.specs.Prelude.{◌≡◌, ◌+◌, ◌≤◌, length};
 ghost use Rattle.refusals.specs.Refusals.{outcome};
 ghost use Rattle.sheet_rules.specs.Sheets.{name_start, name};

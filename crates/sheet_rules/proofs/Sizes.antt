@@ -28,7 +28,8 @@ pub ends_long : (S : List ℕ) → trailer_bytes ≤ length S → longest_sheet 
 unfolding right_ends
 ends_long S h l = rw (le-leb trailer_bytes (length S) h, lt-leb (length S) longest_sheet l)
 
-last_two : (S : List ℕ) → 2 ≤ length S → drop (length S - 2) S ≡ get_or S (length S - 2) 0 ∷ get_or S (length S - 1) 0 ∷ []
+last_two : (S : List ℕ) → 2 ≤ length S → drop (length S - 2) S ≡ get_or S (length S - 2) 0 ∷ get_or S (length S - 1) 0
+    ∷ []
 last_two S h =
     let next : suc (length S - 2) ≡ length S - 1 = omega arith in
     let none_left : length S ≤ suc (length S - 1) = omega arith in

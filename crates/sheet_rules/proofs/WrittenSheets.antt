@@ -10,7 +10,8 @@ use native.Mathlib.Omega.{arith}
 use borrow.Author.Tests.{le-leb, leb-true, eq-eqb}
 use lib.Dec.{leb}
 use lib.ListN.{length, get_or, take, drop, length-append}
-use lib.Seq.{split_at, take-suc, take-length, take_at, drop_at, get_or_at, drop-append-add, take-append_seam, ext_get_or}
+use lib.Seq.{split_at, take-suc, take-length, take_at, drop_at, get_or_at, drop-append-add, take-append_seam}
+use lib.Seq.{ext_get_or}
 use lib.Seq.{drop-drop}
 use Rattle.base.proofs.Bools.{and_both, and_is, is_false}
 use Rattle.base.proofs.Lists.{length_flat, flat_append, flat_more}
@@ -141,7 +142,8 @@ module _ (l : List (List ℕ)) (c : List ℕ) (w : Writable l c) where
   -- the name of leaf i starts behind those before it
   named_parts :
       (i : ℕ) → i < n
-      → (let x = get_or l i [] in name_bytes l ≡ name_bytes (take i l) ++ (length x ∷ (x ++ name_bytes (drop (suc i) l))))
+      → (let x = get_or l i [] in name_bytes l ≡ name_bytes (take i l)
+      ++ (length x ∷ (x ++ name_bytes (drop (suc i) l))))
   unfolding name_bytes flat_map
   named_parts i b =
       ap name_bytes (split_at l i [] b)

@@ -1,1 +1,2 @@
 // The strain sheet: definitions in specs/, laws in proofs/, and no code.
+#![tactic(auto)]

@@ -1,4 +1,6 @@
 // The table of a strain sheet.
+#![tactic(auto)]
+
 ghost use Rattle.std.specs.Prelude.{◌≡◌, length};
 ghost use Rattle.refusals.specs.Refusals.{outcome, written};
 ghost use Rattle.sheets.specs.inner.Figures.{FiguresOf};

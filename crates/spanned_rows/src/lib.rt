@@ -1,5 +1,7 @@
 // The rows of the tree that some leaves span, and the standard listing of a pruned tree. Row by row of a listing, what
 // stays under the two children of a node is joined; where nothing stays of one, it is the other.
+#![tactic(auto)]
+
 ghost use Rattle.std.specs.Prelude.{◌≡◌, cond, ◌++◌, ◌+◌, ◌-◌, ◌*◌, ◌≤◌, ◌<◌, length, drop};
 ghost use Rattle.base.specs.Numbers.{indicator};
 ghost use Rattle.limits.specs.Limits.{most_leaves, most_nodes, most_numbers, IsLeafCount};

@@ -1,4 +1,6 @@
 // The splits of a tree, written as leaf sets.
+#![tactic(auto)]
+
 ghost use Rattle.std.specs.Prelude.{◌≡◌, length};
 ghost use Rattle.refusals.specs.Refusals.{outcome, written};
 ghost use Rattle.splits.specs.Operations.{splits_answer};

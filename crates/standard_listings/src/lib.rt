@@ -1,6 +1,8 @@
 // The operation standardise: the standard listing of the tree that a listing stands for. One pass over the rows finds
 // the least leaf under each number and puts the children of each node into order; then the nodes are written in
 // post-order by a recursion that returns the next row.
+#![tactic(auto)]
+
 ghost use Rattle.std.specs.Prelude.{◌≡◌, List, ◌++◌, ℕ, ◌+◌, ◌-◌, ◌*◌, ◌≤◌, ◌<◌, length, get_or, drop};
 ghost use Rattle.limits.specs.Limits.{IsLeafCount, most_rows, most_numbers};
 ghost use Rattle.refusals.specs.Refusals.{outcome, written};

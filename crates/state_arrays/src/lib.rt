@@ -1,5 +1,7 @@
 // The arrays of a rebuild: each leaf has a label, the least leaf of its subtree, and its number m; a label has the
 // number of leaves of its subtree. How they start, and what a merge makes of them. For the crates of the rebuilds.
+#![tactic(auto)]
+
 ghost use Rattle.std.specs.Prelude.{◌≡◌, ◌≤◌, length};
 ghost use Rattle.limits.specs.Limits.{most_leaves, scale_of};
 ghost use Rattle.state_arrays.specs.inner.Fits.{ScaledCounts, largest_sum, SmallSums};

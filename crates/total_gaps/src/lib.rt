@@ -1,5 +1,7 @@
 // The total gap between a table and a tree, row by row in the order of the places of the leaves: the gaps before the
 // diagonal are as large as those above it, since both tables have equal halves.
+#![tactic(auto)]
+
 ghost use Rattle.std.specs.Prelude.{◌≡◌, ◌≤◌, ◌<◌, length};
 ghost use Rattle.limits.specs.Limits.{most_scale, scale_of, IsLeafCount};
 ghost use Rattle.trees.specs.Listings.{KeepsRules, tree_of};

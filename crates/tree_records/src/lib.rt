@@ -1,4 +1,6 @@
 // Where a tree came from, and what an operation answers that makes a tree record: leaf count, listing and origin.
+#![tactic(auto)]
+
 ghost use Rattle.std.specs.Prelude.{◌≡◌};
 ghost use Rattle.tree_records.specs.Origins.{origin_number, origin_of};
 ghost use Rattle.tree_records.specs.inner.Outcomes.{marked_outcome};

@@ -1,4 +1,6 @@
 // The count table of a tree, written row by row, in the order of the places of the leaves.
+#![tactic(auto)]
+
 ghost use Rattle.std.specs.Prelude.{◌≡◌, ◌++◌, ◌*◌, ◌≤◌, length, drop};
 ghost use Rattle.limits.specs.Limits.{IsLeafCount};
 ghost use Rattle.refusals.specs.Refusals.{outcome, written};

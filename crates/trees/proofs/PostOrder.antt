@@ -252,7 +252,12 @@ nodes_read (node A B) f r h k l = elim (place A B k l) as (λ i _. post_order_ro
   | second j g ↦
       let early : r + (a A B + j) ≢ r'' A B r = omega (arith, many_a, many_b, size_pos A, size_pos B) in
       let there : r + (a A B + j) ≡ r' A B r + j = omega (arith, many_a, size_pos A) in
-      rw (with_rows_node A B r f (r + (a A B + j)), ne_eqb (r + (a A B + j)) (r'' A B r) early, there, in_second A B j g)
+      rw (
+        with_rows_node A B r f (r + (a A B + j)),
+        ne_eqb (r + (a A B + j)) (r'' A B r) early,
+        there,
+        in_second A B j g,
+      )
       (nodes_read B after_a (r' A B r) lb j g)
   | last ↦
       let there : r + (a A B + b A B) ≡ r'' A B r = omega (arith, many_a, many_b, size_pos A, size_pos B) in

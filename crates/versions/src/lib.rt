@@ -1,4 +1,6 @@
 // The version of the part, in one number. specs/Versions.antt has the same names.
+#![tactic(auto)]
+
 ghost use Rattle.std.specs.Prelude.{◌≡◌};
 ghost use Rattle.versions.specs.Versions.{version_number};
 

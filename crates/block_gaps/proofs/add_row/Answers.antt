@@ -100,7 +100,13 @@ overflow_cast-larger c = omega (arith, c.where_equal-in-loop-j.ensures.1, c.apar
 
 pub overflow_add-larger : goal.overflow_add-larger
 overflow_add-larger c =
-    omega (arith, c.where_equal-in-loop-j.ensures.1, c.apart-in-loop-j.ensures.1, c.loop-j.invariant.2.small, c.requires.0.few)
+    omega (
+      arith,
+      c.where_equal-in-loop-j.ensures.1,
+      c.apart-in-loop-j.ensures.1,
+      c.loop-j.invariant.2.small,
+      c.requires.0.few,
+    )
 
 pub loop-j-preserved : goal.loop-j-preserved
 loop-j-preserved c = (

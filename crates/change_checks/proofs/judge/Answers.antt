@@ -41,7 +41,8 @@ sizes c =
 
 pub returns-in_default : goal.returns-in_default
 returns-in_default c =
-    sizes_stop _ _ _ _ _ _ (count (goal.at.returns-in_default c).Else-not-leaf_count) (sizes (goal.at.returns-in_default c).After-judge_sizes-sizes) c.in_default.is
+    sizes_stop _ _ _ _ _ _ (count (goal.at.returns-in_default c).Else-not-leaf_count)
+    (sizes (goal.at.returns-in_default c).After-judge_sizes-sizes) c.in_default.is
 
 -- nothing of them is refused
 fine :
@@ -59,7 +60,8 @@ first c = count (goal.at.judge-rules-requires c).Else-not-leaf_count
 
 pub returns-in_default-rules : goal.returns-in_default-rules
 returns-in_default-rules c =
-    rules_stop _ _ _ _ _ _ (first (goal.at.returns-in_default-rules c).In-Done) (fine (goal.at.returns-in_default-rules c).In-Done) c.judge-rules.ensures c.in_default-rules.is
+    rules_stop _ _ _ _ _ _ (first (goal.at.returns-in_default-rules c).In-Done)
+    (fine (goal.at.returns-in_default-rules c).In-Done) c.judge-rules.ensures c.in_default-rules.is
 
 -- nor of the rules
 ruled :
@@ -73,14 +75,16 @@ judge_cells-requires c =
     let a = c.args in
     let right = sizes_right _ _ _ _ _ _ (fine (goal.at.judge_cells-requires c).In-Done) in (
       first (goal.at.judge_cells-requires c).In-Done,
-      keeps a.n a.listing.now a.table.now a.change a.room a.space (first (goal.at.judge_cells-requires c).In-Done) (fine (goal.at.judge_cells-requires c).In-Done) (ruled (goal.at.judge_cells-requires c).In-Done-rules),
+      keeps a.n a.listing.now a.table.now a.change a.room a.space (first (goal.at.judge_cells-requires c).In-Done)
+          (fine (goal.at.judge_cells-requires c).In-Done) (ruled (goal.at.judge_cells-requires c).In-Done-rules),
       right.square,
     )
 
 pub returns : goal.returns
 returns c =
     let a = c.args in
-    cells_decide a.n a.listing.now a.table.now a.change a.room a.space (first (goal.at.returns c).In-Done) (fine (goal.at.returns c).In-Done)
+    cells_decide a.n a.listing.now a.table.now a.change a.room a.space (first (goal.at.returns c).In-Done)
+    (fine (goal.at.returns c).In-Done)
     (ruled (goal.at.returns c).In-Done-rules)
     (c.judge_cells.ensures
     ∙ ap (λ b. outcome_of (cells_or_own_refusal b a.n a.table.now (tree_of a.n a.listing.now)))

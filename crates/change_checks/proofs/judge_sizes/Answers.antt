@@ -7,7 +7,8 @@ use Rattle.limits.specs.Limits.{IsLeafCount}
 use Rattle.checks.proofs.Sizes.{is_leaf_count}
 use Rattle.change_checks.proofs.Refusals.{count_told, numbers_told, cells_told, room_told, space_told}
 use Rattle.change_checks.proofs.Refusals.{sizes_told}
-use Rattle.change_checks.proofs.judge_sizes.Goals.{Else-cells-table_cells, Else-not-leaf_count, Else-numbers-listing_numbers, Else-room-listing_numbers}
+use Rattle.change_checks.proofs.judge_sizes.Goals.{Else-cells-table_cells, Else-not-leaf_count}
+use Rattle.change_checks.proofs.judge_sizes.Goals.{Else-numbers-listing_numbers, Else-room-listing_numbers}
 use Rattle.change_checks.proofs.judge_sizes.Goals as goal
 
 pub returns-then-not-leaf_count : goal.returns-then-not-leaf_count
@@ -30,7 +31,11 @@ room :
     (c : Else-room-listing_numbers)
     → let a = c.args in 2 * (a.m - 2) ≤ a.room
 room c =
-    omega (arith, c.if-room-listing_numbers.false, c.listing_numbers-2.ensures (count (goal.at.table_cells-requires-2 c).Else-not-leaf_count))
+    omega (
+      arith,
+      c.if-room-listing_numbers.false,
+      c.listing_numbers-2.ensures (count (goal.at.table_cells-requires-2 c).Else-not-leaf_count),
+    )
 
 pub returns-then-numbers-listing_numbers : goal.returns-then-numbers-listing_numbers
 returns-then-numbers-listing_numbers c =
@@ -39,25 +44,30 @@ returns-then-numbers-listing_numbers c =
 
 pub returns-then-cells-table_cells : goal.returns-then-cells-table_cells
 returns-then-cells-table_cells c =
-    cells_told _ _ _ _ _ _ (count (goal.at.returns-then-cells-table_cells c).Else-not-leaf_count) (numbers (goal.at.returns-then-cells-table_cells c).Else-numbers-listing_numbers)
+    cells_told _ _ _ _ _ _ (count (goal.at.returns-then-cells-table_cells c).Else-not-leaf_count)
+    (numbers (goal.at.returns-then-cells-table_cells c).Else-numbers-listing_numbers)
     (λ h. c.if-cells-table_cells.true (h ∙ sym (c.table_cells.ensures c.requires)))
 
 pub returns-then-room-listing_numbers : goal.returns-then-room-listing_numbers
 returns-then-room-listing_numbers c =
     let k = count (goal.at.returns-then-room-listing_numbers c).Else-not-leaf_count in
-    room_told _ _ _ _ _ _ k (numbers (goal.at.returns-then-room-listing_numbers c).Else-numbers-listing_numbers) (cells (goal.at.returns-then-room-listing_numbers c).Else-cells-table_cells)
+    room_told _ _ _ _ _ _ k (numbers (goal.at.returns-then-room-listing_numbers c).Else-numbers-listing_numbers)
+    (cells (goal.at.returns-then-room-listing_numbers c).Else-cells-table_cells)
     (omega (arith, c.if-room-listing_numbers.true, c.listing_numbers-2.ensures k))
 
 pub returns-then-space-table_cells : goal.returns-then-space-table_cells
 returns-then-space-table_cells c =
     let k = count (goal.at.returns-then-space-table_cells c).Else-not-leaf_count in
-    space_told _ _ _ _ _ _ k (numbers (goal.at.returns-then-space-table_cells c).Else-numbers-listing_numbers) (cells (goal.at.returns-then-space-table_cells c).Else-cells-table_cells) (room (goal.at.returns-then-space-table_cells c).Else-room-listing_numbers)
+    space_told _ _ _ _ _ _ k (numbers (goal.at.returns-then-space-table_cells c).Else-numbers-listing_numbers)
+    (cells (goal.at.returns-then-space-table_cells c).Else-cells-table_cells)
+    (room (goal.at.returns-then-space-table_cells c).Else-room-listing_numbers)
     (omega (arith, c.if-space-table_cells.true, c.table_cells-2.ensures k))
 
 pub returns : goal.returns
 returns c =
     let k = count (goal.at.returns c).Else-not-leaf_count in
-    sizes_told _ _ _ _ _ _ k (numbers (goal.at.returns c).Else-numbers-listing_numbers) (cells (goal.at.returns c).Else-cells-table_cells) (room (goal.at.returns c).Else-room-listing_numbers)
+    sizes_told _ _ _ _ _ _ k (numbers (goal.at.returns c).Else-numbers-listing_numbers)
+    (cells (goal.at.returns c).Else-cells-table_cells) (room (goal.at.returns c).Else-room-listing_numbers)
     (omega (arith, c.if-space-table_cells.false, c.table_cells-2.ensures k))
 
 pub table_cells-requires-2 : goal.table_cells-requires-2

@@ -22,10 +22,12 @@ returns-then-not-leaf_count_of c =
 pub returns-then-lent-due : goal.returns-then-lent-due
 unfolding input_refusal outcome_of
 returns-then-lent-due c =
-    let passed = judged_passes _ (count_passes c.args.kind _ (count (goal.at.returns-then-lent-due c).Else-not-leaf_count_of)) in
+    let passed =
+    judged_passes _ (count_passes c.args.kind _ (count (goal.at.returns-then-lent-due c).Else-not-leaf_count_of)) in
     ap outcome_of (sym (passed ∙ judged_stops _ (length_stops _ _ c.if-lent-due.true)))
 
 pub returns : goal.returns
 unfolding outcome_of
 returns c =
-    ap outcome_of (sym (input_passes c.args.kind _ _ _ (count (goal.at.returns c).Else-not-leaf_count_of) c.if-lent-due.false))
+    ap outcome_of (sym (input_passes c.args.kind _ _ _ (count (goal.at.returns c).Else-not-leaf_count_of)
+    c.if-lent-due.false))

@@ -10,7 +10,8 @@ use Rattle.checks.proofs.numbers_due.Goals.{Else-not-leaf_count}
 use Rattle.checks.proofs.numbers_due.Goals as goal
 
 pub returns-then-not-leaf_count : goal.returns-then-not-leaf_count
-returns-then-not-leaf_count c = λ h. absurd (count_wrong Counts _ (sym c.leaf_count.ensures ∙ c.if-not-leaf_count.true) h)
+returns-then-not-leaf_count c =
+    λ h. absurd (count_wrong Counts _ (sym c.leaf_count.ensures ∙ c.if-not-leaf_count.true) h)
 
 pub returns-then-n-less : goal.returns-then-n-less
 returns-then-n-less c =

@@ -31,14 +31,23 @@ pub move_to-requires : goal.move_to-requires
 move_to-requires c =
     let p = c.requires in
     rw ((the_row (goal.at.move_to-requires c).After-row_at-r).first_is, c.loop-k.invariant.1.long)
-    (move_fits _ _ p.count p.keeps (this_row (goal.at.move_to-requires c).In-loop-k) p.room (from_next (goal.at.move_to-requires c).In-loop-k) p _ (omega (arith, this_row (goal.at.move_to-requires c).In-loop-k))
+    (move_fits _ _ p.count p.keeps (this_row (goal.at.move_to-requires c).In-loop-k) p.room
+    (from_next (goal.at.move_to-requires c).In-loop-k) p _
+    (omega (arith, this_row (goal.at.move_to-requires c).In-loop-k))
     (p.moves.first _ (this_row (goal.at.move_to-requires c).In-loop-k)))
 
 pub move_to-requires-in-loop-k : goal.move_to-requires-in-loop-k
 move_to-requires-in-loop-k c =
     let p = c.requires in
-    rw ((the_row (goal.at.move_to-requires-in-loop-k c).After-row_at-r).second_is, c.move_to.ensures, length-set, c.loop-k.invariant.1.long)
-    (move_fits _ _ p.count p.keeps (this_row (goal.at.move_to-requires-in-loop-k c).In-loop-k) p.room (from_next (goal.at.move_to-requires-in-loop-k c).In-loop-k) p _ (omega (arith, this_row (goal.at.move_to-requires-in-loop-k c).In-loop-k))
+    rw (
+      (the_row (goal.at.move_to-requires-in-loop-k c).After-row_at-r).second_is,
+      c.move_to.ensures,
+      length-set,
+      c.loop-k.invariant.1.long,
+    )
+    (move_fits _ _ p.count p.keeps (this_row (goal.at.move_to-requires-in-loop-k c).In-loop-k) p.room
+    (from_next (goal.at.move_to-requires-in-loop-k c).In-loop-k) p _
+    (omega (arith, this_row (goal.at.move_to-requires-in-loop-k c).In-loop-k))
     (p.moves.second _ (this_row (goal.at.move_to-requires-in-loop-k c).In-loop-k)))
 
 pub loop-k-preserved : goal.loop-k-preserved
@@ -47,7 +56,8 @@ loop-k-preserved c =
     let r = the_row (goal.at.loop-k-preserved c).After-row_at-r in (
       omega (arith, this_row (goal.at.loop-k-preserved c).In-loop-k),
       rw (c.move_to-in-loop-k.ensures, c.move_to.ensures, r.first_is, r.second_is)
-          (spread_more _ _ p.count p.keeps (this_row (goal.at.loop-k-preserved c).In-loop-k) p.room (from_next (goal.at.loop-k-preserved c).In-loop-k)),
+          (spread_more _ _ p.count p.keeps (this_row (goal.at.loop-k-preserved c).In-loop-k) p.room
+          (from_next (goal.at.loop-k-preserved c).In-loop-k)),
     )
 
 pub returns : goal.returns

@@ -21,7 +21,8 @@ cells c i j =
 pub spread_totals-requires : goal.spread_totals-requires
 spread_totals-requires c =
     let p = c.requires in
-    spread_ready p.0 c.weigh_rows.ensures (cells (goal.at.spread_totals-requires c).After-weigh_rows) c.args.out.now c.args.last p.1 p.2
+    spread_ready p.0 c.weigh_rows.ensures (cells (goal.at.spread_totals-requires c).After-weigh_rows) c.args.out.now
+    c.args.last p.1 p.2
 
 pub returns : goal.returns
 returns c =

@@ -98,8 +98,15 @@ block-between-requires c =
 pub weigh_child-first-requires : goal.weigh_child-first-requires
 weigh_child-first-requires c =
     let p = c.requires in
-    let between = c.block-between.ensures in
-    (tables_fit p.0, own_is_table p.0, p.0.is_table, both_fit (goal.at.weigh_child-first-requires c).After-index_of_u32-b, first_row (goal.at.weigh_child-first-requires c).After-index_of_u32-b, between.as_is.1, between.larger.1)
+    let between = c.block-between.ensures in (
+      tables_fit p.0,
+      own_is_table p.0,
+      p.0.is_table,
+      both_fit (goal.at.weigh_child-first-requires c).After-index_of_u32-b,
+      first_row (goal.at.weigh_child-first-requires c).After-index_of_u32-b,
+      between.as_is.1,
+      between.larger.1,
+    )
 
 pub weigh_child-second-requires : goal.weigh_child-second-requires
 weigh_child-second-requires c =
@@ -145,19 +152,39 @@ pub offset_bounds-sizes-a : goal.offset_bounds-sizes-a
 offset_bounds-sizes-a c = omega (arith, (first_is c).below, few c)
 
 pub bounds-sizes-a : goal.bounds-sizes-a
-bounds-sizes-a c = omega (arith, (first_is (goal.at.bounds-sizes-a c).After-index_of_u32-b).below, few (goal.at.bounds-sizes-a c).After-index_of_u32-b)
+bounds-sizes-a c = omega (
+  arith,
+  (first_is (goal.at.bounds-sizes-a c).After-index_of_u32-b).below,
+  few (goal.at.bounds-sizes-a c).After-index_of_u32-b,
+)
 
 pub offset_bounds-sizes-b : goal.offset_bounds-sizes-b
-offset_bounds-sizes-b c = omega (arith, (second_is (goal.at.offset_bounds-sizes-b c).After-index_of_u32-b).below, few (goal.at.offset_bounds-sizes-b c).After-index_of_u32-b)
+offset_bounds-sizes-b c = omega (
+  arith,
+  (second_is (goal.at.offset_bounds-sizes-b c).After-index_of_u32-b).below,
+  few (goal.at.offset_bounds-sizes-b c).After-index_of_u32-b,
+)
 
 pub bounds-sizes-b : goal.bounds-sizes-b
-bounds-sizes-b c = omega (arith, (second_is (goal.at.bounds-sizes-b c).After-index_of_u32-b).below, few (goal.at.bounds-sizes-b c).After-index_of_u32-b)
+bounds-sizes-b c = omega (
+  arith,
+  (second_is (goal.at.bounds-sizes-b c).After-index_of_u32-b).below,
+  few (goal.at.bounds-sizes-b c).After-index_of_u32-b,
+)
 
 pub overflow_cast-a : goal.overflow_cast-a
-overflow_cast-a c = omega (arith, (first_is (goal.at.overflow_cast-a c).After-index_of_u32-b).below, few (goal.at.overflow_cast-a c).After-index_of_u32-b)
+overflow_cast-a c = omega (
+  arith,
+  (first_is (goal.at.overflow_cast-a c).After-index_of_u32-b).below,
+  few (goal.at.overflow_cast-a c).After-index_of_u32-b,
+)
 
 pub overflow_cast-b : goal.overflow_cast-b
-overflow_cast-b c = omega (arith, (second_is (goal.at.overflow_cast-b c).After-index_of_u32-b).below, few (goal.at.overflow_cast-b c).After-index_of_u32-b)
+overflow_cast-b c = omega (
+  arith,
+  (second_is (goal.at.overflow_cast-b c).After-index_of_u32-b).below,
+  few (goal.at.overflow_cast-b c).After-index_of_u32-b,
+)
 
 pub overflow_add-beyond : goal.overflow_add-beyond
 overflow_add-beyond c = omega (arith, both_fit (goal.at.overflow_add-beyond c).After-index_of_u32-b)

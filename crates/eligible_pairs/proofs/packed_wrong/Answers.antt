@@ -18,12 +18,14 @@ long c =
 
 pub slice_bounds-cells_wrong-end : goal.slice_bounds-cells_wrong-end
 slice_bounds-cells_wrong-end c =
-    sym (length-take-le c.args.n _ (rw (long (goal.at.slice_bounds-cells_wrong-end c).After-write_row) c.requires.0.0.1))
+    sym (length-take-le c.args.n _
+    (rw (long (goal.at.slice_bounds-cells_wrong-end c).After-write_row) c.requires.0.0.1))
 
 pub cells_wrong-requires : goal.cells_wrong-requires
 cells_wrong-requires c =
     let few = c.requires.0.0.1 in
-    let row = length-take-le c.args.n c.write_row.new.out (rw (long (goal.at.cells_wrong-requires c).After-write_row) few) in
+    let row =
+    length-take-le c.args.n c.write_row.new.out (rw (long (goal.at.cells_wrong-requires c).After-write_row) few) in
     (few, omega (arith, row), c.requires.1, c.requires.3)
 
 pub returns : goal.returns

@@ -8,7 +8,9 @@ use Rattle.gap_sums.proofs.add_row.Given as goal
 
 abbrev pub invariant-loop-y : goal.invariant-loop-y
 invariant-loop-y l =
-    (l.y ≤ l.n) × (l.columns ≡ filled l.y (λ k. get_or l.initial.columns k 0 + distance (get_or l.row k 0) (get_or l.due k 0 + l.m)) l.initial.columns)
+    (l.y ≤ l.n) × (l.columns
+    ≡ filled l.y (λ k. get_or l.initial.columns k 0 + distance (get_or l.row k 0) (get_or l.due k 0 + l.m))
+    l.initial.columns)
 
 abbrev pub decreases-loop-y : goal.decreases-loop-y
 decreases-loop-y l = l.n - l.y

@@ -36,7 +36,8 @@ slice_bounds-add_row-end c = omega (arith, ends c)
 
 pub add_row-requires : goal.add_row-requires
 add_row-requires c =
-    let long = part_long c.args.table.now (c.args.x * c.args.n) c.args.n (ends (goal.at.add_row-requires c).Else-label-x).0 in
+    let long =
+    part_long c.args.table.now (c.args.x * c.args.n) c.args.n (ends (goal.at.add_row-requires c).Else-label-x).0 in
     (c.requires.0, omega (arith, long), c.requires.3, c.requires.2 c.args.x c.requires.4, c.requires.5)
 
 pub returns : goal.returns

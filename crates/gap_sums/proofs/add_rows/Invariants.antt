@@ -10,7 +10,8 @@ use Rattle.gap_sums.proofs.add_rows.Given as goal
 abbrev pub invariant-loop-x : goal.invariant-loop-x
 invariant-loop-x l =
     (l.x ≤ l.n) × (length l.columns ≡ most_leaves)
-    × ((y : ℕ) → y < l.n → get_or l.columns y 0 ≡ sum_below l.x (gap_in l.n l.table l.label l.m l.a (get_or l.due y 0) y))
+    × ((y : ℕ) → y < l.n → get_or l.columns y 0
+    ≡ sum_below l.x (gap_in l.n l.table l.label l.m l.a (get_or l.due y 0) y))
 
 abbrev pub decreases-loop-x : goal.decreases-loop-x
 decreases-loop-x l = l.n - l.x

@@ -27,8 +27,12 @@ overflow_add-high c =
 pub loop-x-preserved : goal.loop-x-preserved
 loop-x-preserved c =
     let l = c.loop-x in
-    let next = sum_turn _ l.x l.invariant.1 c.gap_of-gap.ensures.0 in
-    (omega arith, omega (arith, next), omega (arith, l.invariant.2), omega (arith, l.invariant.3, c.gap_of-gap.ensures.1))
+    let next = sum_turn _ l.x l.invariant.1 c.gap_of-gap.ensures.0 in (
+      omega arith,
+      omega (arith, next),
+      omega (arith, l.invariant.2),
+      omega (arith, l.invariant.3, c.gap_of-gap.ensures.1),
+    )
 
 pub overflow_mul-result : goal.overflow_mul-result
 overflow_mul-result c = omega (arith, c.loop-x.invariant.3, c.requires.0)

@@ -11,7 +11,8 @@ abbrev pub invariant-loop-x : goal.invariant-loop-x
 invariant-loop-x l =
     (l.x ≤ l.n)
     × (l.low + 65536 * l.high
-    ≡ sum_below l.x (λ k. indicator (eqb (get_or l.label k 0) l.a) (distance (get_or l.row k 0) (l.due + get_or l.m k 0))))
+    ≡ sum_below l.x (λ k. indicator (eqb (get_or l.label k 0) l.a)
+    (distance (get_or l.row k 0) (l.due + get_or l.m k 0))))
     × (l.low ≤ l.x * 65535) × (l.high ≤ l.x * 65535)
 
 abbrev pub decreases-loop-x : goal.decreases-loop-x

@@ -17,7 +17,8 @@ gap_at n scale t l k = pos (get_or t k 0) -ℤ pos (scale * quartets n (tree_of 
 
 abbrev pub invariant-loop-i : goal.invariant-loop-i
 invariant-loop-i l =
-    (l.i ≤ l.n) × (length l.tops ≡ most_leaves) × (l.out ≡ filled (l.i * l.n) (gap_at l.n l.scale l.cells l.listing) l.initial.out)
+    (l.i ≤ l.n) × (length l.tops ≡ most_leaves)
+    × (l.out ≡ filled (l.i * l.n) (gap_at l.n l.scale l.cells l.listing) l.initial.out)
 
 abbrev pub decreases-loop-i : goal.decreases-loop-i
 decreases-loop-i l = l.n - l.i

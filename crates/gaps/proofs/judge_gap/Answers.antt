@@ -24,7 +24,8 @@ sizes c =
     ∙ ap outcome_of (input_due _ _ _ _ _ (λ h. c.table_cells.ensures (leaf_count_of a.kind a.n h)))
 
 pub returns-in_default : goal.returns-in_default
-returns-in_default c = sizes_stop _ _ _ _ _ (sizes (goal.at.returns-in_default c).After-judge_input-sizes) c.in_default.is
+returns-in_default c =
+    sizes_stop _ _ _ _ _ (sizes (goal.at.returns-in_default c).After-judge_input-sizes) c.in_default.is
 
 -- nothing of them is refused
 fine :
@@ -35,7 +36,8 @@ fine c = call_passed _ (sizes (goal.at.judge_for_cells-listed-requires c).After-
 
 pub returns-in_default-listed : goal.returns-in_default-listed
 returns-in_default-listed c =
-    listing_stops _ _ _ _ _ (fine (goal.at.returns-in_default-listed c).In-Done) c.judge_for_cells-listed.ensures c.in_default-listed.is
+    listing_stops _ _ _ _ _ (fine (goal.at.returns-in_default-listed c).In-Done) c.judge_for_cells-listed.ensures
+    c.in_default-listed.is
 
 pub returns : goal.returns
 returns c =

@@ -9,7 +9,8 @@ use Rattle.gaps.proofs.subtract_row.Given as goal
 abbrev pub invariant-loop-j : goal.invariant-loop-j
 invariant-loop-j l =
     (l.j ≤ l.n)
-    × RowWritten l.n l.i (λ k. pos (get_or l.cells (l.i * l.n + k) 0) -ℤ pos (l.scale * count_in l.base l.aboves l.tops k)) l.initial.out l.out l.j
+    × RowWritten l.n l.i (λ k. pos (get_or l.cells (l.i * l.n + k) 0) -ℤ pos
+    (l.scale * count_in l.base l.aboves l.tops k)) l.initial.out l.out l.j
 
 abbrev pub decreases-loop-j : goal.decreases-loop-j
 decreases-loop-j l = l.n - l.j

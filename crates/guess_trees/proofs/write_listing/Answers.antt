@@ -27,8 +27,14 @@ slice_bounds-write_tree_table-end c =
     sym (length-take-le _ _ (bytes_most c.args.n (count (goal.at.slice_bounds-write_tree_table-end c).Start)))
 
 pub write_tree_table-requires : goal.write_tree_table-requires
-write_tree_table-requires c =
-    (c.requires.0, c.requires.1, (count (goal.at.write_tree_table-requires c).Start, length-take-le _ _ (bytes_most c.args.n (count (goal.at.write_tree_table-requires c).Start))))
+write_tree_table-requires c = (
+  c.requires.0,
+  c.requires.1,
+  (
+    count (goal.at.write_tree_table-requires c).Start,
+    length-take-le _ _ (bytes_most c.args.n (count (goal.at.write_tree_table-requires c).Start)),
+  ),
+)
 
 pub slice_bounds-own-end-2 : goal.slice_bounds-own-end-2
 slice_bounds-own-end-2 c =

@@ -8,7 +8,8 @@ use Rattle.leaf_merges.proofs.merge_leaves.Given as goal
 
 abbrev pub invariant-loop-t : goal.invariant-loop-t
 invariant-loop-t l =
-    (1 ≤ l.t) × (l.t ≤ l.n) × LeavesMerged l.n (counts_scale l.p) (lent_table l.n l.table l.packed) l.label l.m l.sizes l.names l.rows l.r l.t
+    (1 ≤ l.t) × (l.t ≤ l.n) × LeavesMerged l.n (counts_scale l.p) (lent_table l.n l.table l.packed) l.label l.m l.sizes
+    l.names l.rows l.r l.t
 
 abbrev pub decreases-loop-t : goal.decreases-loop-t
 decreases-loop-t l = l.t

@@ -67,5 +67,6 @@ overflow_add-depth-2 c = omega (arith, known (goal.at.overflow_add-depth-2 c).Af
 
 pub returns : goal.returns
 returns c =
-    told _ _ _ _ _ c.requires.0 c.requires.1 c.requires.2 c.requires.3 (known (goal.at.returns c).After-row_at-r).0 (omega arith) (omega arith)
+    told _ _ _ _ _ c.requires.0 c.requires.1 c.requires.2 c.requires.3 (known (goal.at.returns c).After-row_at-r).0
+    (omega arith) (omega arith)
     (omega arith)

@@ -35,7 +35,8 @@ pub bounds-sizes-a : goal.bounds-sizes-a
 bounds-sizes-a c = omega (arith, (this (goal.at.bounds-sizes-a c).After-row_at-r).first_before, c.requires.0.1)
 
 pub offset_bounds-sizes-b : goal.offset_bounds-sizes-b
-offset_bounds-sizes-b c = omega (arith, (this (goal.at.offset_bounds-sizes-b c).After-row_at-r).second_before, c.requires.0.1)
+offset_bounds-sizes-b c =
+    omega (arith, (this (goal.at.offset_bounds-sizes-b c).After-row_at-r).second_before, c.requires.0.1)
 
 pub bounds-sizes-b : goal.bounds-sizes-b
 bounds-sizes-b c =

@@ -33,7 +33,11 @@ small :
     (c : In-loop-j)
     → at c.place_numbers.new.places c.loop-j.j < most_leaves
 small c =
-    omega (arith, (own (goal.at.offset_bounds-places-j c).After-place_numbers).inside c.loop-j.j (omega arith), (own (goal.at.offset_bounds-places-j c).After-place_numbers).few)
+    omega (
+      arith,
+      (own (goal.at.offset_bounds-places-j c).After-place_numbers).inside c.loop-j.j (omega arith),
+      (own (goal.at.offset_bounds-places-j c).After-place_numbers).few,
+    )
 
 pub place_numbers-requires : goal.place_numbers-requires
 place_numbers-requires c =
@@ -68,7 +72,8 @@ loop-j-preserved c =
       omega arith,
       simp length-set i.invariant.1,
       simp length-set i.invariant.2,
-      placed_more n c.place_numbers.new.places c.place_numbers.new.befores i.order i.depths i.j (own (goal.at.loop-j-preserved c).After-place_numbers) (omega arith) i.invariant.1 i.invariant.2
+      placed_more n c.place_numbers.new.places c.place_numbers.new.befores i.order i.depths i.j
+          (own (goal.at.loop-j-preserved c).After-place_numbers) (omega arith) i.invariant.1 i.invariant.2
           i.invariant.3,
     )
 

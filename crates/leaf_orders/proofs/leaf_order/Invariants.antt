@@ -8,7 +8,8 @@ use Rattle.leaf_orders.proofs.leaf_order.Given as goal
 
 abbrev pub invariant-loop-j : goal.invariant-loop-j
 invariant-loop-j l =
-    (l.j ≤ l.n) × (length l.order ≡ most_leaves) × (length l.depths ≡ most_leaves) × Placed l.places l.befores l.order l.depths l.j
+    (l.j ≤ l.n) × (length l.order ≡ most_leaves) × (length l.depths ≡ most_leaves)
+    × Placed l.places l.befores l.order l.depths l.j
 
 abbrev pub decreases-loop-j : goal.decreases-loop-j
 decreases-loop-j l = l.n - l.j

@@ -54,43 +54,52 @@ children_of-r-requires c =
     )
 
 pub offset_bounds-places-a : goal.offset_bounds-places-a
-offset_bounds-places-a c = let f = next (goal.at.offset_bounds-places-a c).After-children_of-r in omega (arith, first_below f, few f)
+offset_bounds-places-a c =
+    let f = next (goal.at.offset_bounds-places-a c).After-children_of-r in omega (arith, first_below f, few f)
 
 pub bounds-places-a : goal.bounds-places-a
 bounds-places-a c = let f = next (goal.at.bounds-places-a c).After-children_of-r in omega (arith, first_below f, few f)
 
 pub overflow_add-places : goal.overflow_add-places
-overflow_add-places c = let f = next (goal.at.overflow_add-places c).After-children_of-r in omega (arith, in_place f, f.asked.leaf_count.1)
+overflow_add-places c =
+    let f = next (goal.at.overflow_add-places c).After-children_of-r in omega (arith, in_place f, f.asked.leaf_count.1)
 
 pub offset_bounds-places-b : goal.offset_bounds-places-b
-offset_bounds-places-b c = let f = next (goal.at.offset_bounds-places-b c).After-children_of-r in omega (arith, second_below f, few f)
+offset_bounds-places-b c =
+    let f = next (goal.at.offset_bounds-places-b c).After-children_of-r in omega (arith, second_below f, few f)
 
 pub bounds-places-b : goal.bounds-places-b
 bounds-places-b c = let f = next (goal.at.bounds-places-b c).After-children_of-r in omega (arith, second_below f, few f)
 
 pub offset_bounds-aboves-a : goal.offset_bounds-aboves-a
-offset_bounds-aboves-a c = let f = next (goal.at.offset_bounds-aboves-a c).After-children_of-r in omega (arith, first_below f, few f)
+offset_bounds-aboves-a c =
+    let f = next (goal.at.offset_bounds-aboves-a c).After-children_of-r in omega (arith, first_below f, few f)
 
 pub bounds-aboves-a : goal.bounds-aboves-a
 bounds-aboves-a c = let f = next (goal.at.bounds-aboves-a c).After-children_of-r in omega (arith, first_below f, few f)
 
 pub offset_bounds-aboves-b : goal.offset_bounds-aboves-b
-offset_bounds-aboves-b c = let f = next (goal.at.offset_bounds-aboves-b c).After-children_of-r in omega (arith, second_below f, few f)
+offset_bounds-aboves-b c =
+    let f = next (goal.at.offset_bounds-aboves-b c).After-children_of-r in omega (arith, second_below f, few f)
 
 pub bounds-aboves-b : goal.bounds-aboves-b
 bounds-aboves-b c = let f = next (goal.at.bounds-aboves-b c).After-children_of-r in omega (arith, second_below f, few f)
 
 pub offset_bounds-befores-a : goal.offset_bounds-befores-a
-offset_bounds-befores-a c = let f = next (goal.at.offset_bounds-befores-a c).After-children_of-r in omega (arith, first_below f, few f)
+offset_bounds-befores-a c =
+    let f = next (goal.at.offset_bounds-befores-a c).After-children_of-r in omega (arith, first_below f, few f)
 
 pub bounds-befores-a : goal.bounds-befores-a
-bounds-befores-a c = let f = next (goal.at.bounds-befores-a c).After-children_of-r in omega (arith, first_below f, few f)
+bounds-befores-a c =
+    let f = next (goal.at.bounds-befores-a c).After-children_of-r in omega (arith, first_below f, few f)
 
 pub offset_bounds-befores-b : goal.offset_bounds-befores-b
-offset_bounds-befores-b c = let f = next (goal.at.offset_bounds-befores-b c).After-children_of-r in omega (arith, second_below f, few f)
+offset_bounds-befores-b c =
+    let f = next (goal.at.offset_bounds-befores-b c).After-children_of-r in omega (arith, second_below f, few f)
 
 pub bounds-befores-b : goal.bounds-befores-b
-bounds-befores-b c = let f = next (goal.at.bounds-befores-b c).After-children_of-r in omega (arith, second_below f, few f)
+bounds-befores-b c =
+    let f = next (goal.at.bounds-befores-b c).After-children_of-r in omega (arith, second_below f, few f)
 
 pub loop-c-preserved : goal.loop-c-preserved
 loop-c-preserved c = (omega arith, omega arith, children_placed (next (goal.at.loop-c-preserved c).After-children_of-r))

@@ -11,7 +11,8 @@ use Rattle.least_depths.proofs.move_left.Given as goal
 
 abbrev pub invariant-loop-tops : goal.invariant-loop-tops
 invariant-loop-tops l =
-    (l.t < l.p) × (length l.tops ≡ most_leaves) × LeastBetween l.depths l.t l.p l.low × Before l.order l.depths l.p l.tops l.t
+    (l.t < l.p) × (length l.tops ≡ most_leaves) × LeastBetween l.depths l.t l.p l.low
+    × Before l.order l.depths l.p l.tops l.t
     × ((s : ℕ) → (s < l.t) ⊎ (l.p < s) → s < l.n → at l.tops (at l.order s) ≡ at l.initial.tops (at l.order s))
 
 abbrev pub decreases-loop-tops : goal.decreases-loop-tops

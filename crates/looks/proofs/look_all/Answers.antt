@@ -37,6 +37,6 @@ pub returns : goal.returns
 unfolding look_all_answer
 returns c =
     let said =
-        call_done _ (judged (goal.at.returns c).After-judge-judged) _ _ c.in-Done.is
-        (c.write_all.ensures ∙ filled_written _ _ _) in
+    call_done _ (judged (goal.at.returns c).After-judge-judged) _ _ c.in-Done.is
+    (c.write_all.ensures ∙ filled_written _ _ _) in
     record { answer = said.0; buffer = said.1 }

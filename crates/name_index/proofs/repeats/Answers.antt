@@ -41,7 +41,7 @@ pub returns-then-leaf_named-i : goal.returns-then-leaf_named-i
 returns-then-leaf_named-i c =
     let at = goal.at.returns-then-leaf_named-i c in
     let same_name =
-        repeated-is at.After-leaf_named (asked-name at.After-index_of_u8-many) ∙ lt-ltb _ _ c.if-leaf_named-i.true in
+    repeated-is at.After-leaf_named (asked-name at.After-index_of_u8-many) ∙ lt-ltb _ _ c.if-leaf_named-i.true in
     (sym same_name, λ new. absurd (never same_name new))
 
 pub returns : goal.returns
@@ -49,7 +49,7 @@ returns c =
     let linked = c.link.ensures in
     let at = goal.at.returns c in
     let new =
-        repeated-is at.After-leaf_named (asked-name at.After-index_of_u8-many) ∙ le-ltb _ _ c.if-leaf_named-i.false in
+    repeated-is at.After-leaf_named (asked-name at.After-index_of_u8-many) ∙ le-ltb _ _ c.if-leaf_named-i.false in
     let b = ap (λ h. h % buckets) c.requires.3 in
     let more = index_more c.requires.0 c.requires.1 c.requires.2 c.requires.4 new b in
     (sym new, λ _. rw (linked.0, linked.1, linked.2) more)

@@ -26,8 +26,10 @@ pub pair_of-requires : goal.pair_of-requires
 pair_of-requires c = pair_fits c.requires.0 (found c)
 
 pub smaller-requires : goal.smaller-requires
-smaller-requires c =
-    (best_small c.requires.0 c.requires.4, rw c.pair_of.ensures (pair_small c.requires.0 (found (goal.at.smaller-requires c).Else-index_of_u32-j)))
+smaller-requires c = (
+  best_small c.requires.0 c.requires.4,
+  rw c.pair_of.ensures (pair_small c.requires.0 (found (goal.at.smaller-requires c).Else-index_of_u32-j)),
+)
 
 pub returns : goal.returns
 returns c =

@@ -27,7 +27,8 @@ loop-i-preserved c =
     let l = c.loop-i in (
       omega arith,
       length-set l.partners _ _ ∙ l.invariant.1,
-      partners_turn _ _ _ _ l.i l.partners _ (omega (arith, l.invariant.1, c.requires.0.few, c.requires.2)) l.invariant.2
+      partners_turn _ _ _ _ l.i l.partners _ (omega (arith, l.invariant.1, c.requires.0.few, c.requires.2))
+          l.invariant.2
           c.renewed_if_label.ensures,
       λ k g m. get_or-set_other l.partners l.i k _ 0 (omega arith) ∙ l.invariant.3 k (omega arith) m,
     )

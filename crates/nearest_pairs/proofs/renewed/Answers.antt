@@ -44,7 +44,8 @@ nearer_of_two-requires c =
 pub returns-then-old-a : goal.returns-then-old-a
 returns-then-old-a c =
     let d = fresh (goal.at.returns-then-old-a c).Else-a-i in
-    renewed_up c.requires.0 c.requires.1 c.requires.2 c.requires.4 c.requires.5 (early (goal.at.returns-then-old-a c).Else-a-i) d.1 d.2
+    renewed_up c.requires.0 c.requires.1 c.requires.2 c.requires.4 c.requires.5
+    (early (goal.at.returns-then-old-a c).Else-a-i) d.1 d.2
     c.nearer_of_two.ensures
 
 pub nearer_of_two-requires-2 : goal.nearer_of_two-requires-2
@@ -56,5 +57,6 @@ nearer_of_two-requires-2 c =
 pub returns : goal.returns
 returns c =
     let d = fresh (goal.at.returns c).Else-a-i in
-    renewed_down c.requires.0 c.requires.1 c.requires.2 c.requires.4 c.requires.5 (early (goal.at.returns c).Else-a-i) d.1 d.2
+    renewed_down c.requires.0 c.requires.1 c.requires.2 c.requires.4 c.requires.5 (early (goal.at.returns c).Else-a-i)
+    d.1 d.2
     c.nearer_of_two-2.ensures

@@ -18,7 +18,8 @@ overflow_mul-best c =
 
 pub returns-then-next-best : goal.returns-then-next-best
 unfolding less
-returns-then-next-best c = record { less_is = λ _. refl; else_is = λ e. absurd (never (lt-ltb _ _ c.if-next-best.true) e) }
+returns-then-next-best c =
+    record { less_is = λ _. refl; else_is = λ e. absurd (never (lt-ltb _ _ c.if-next-best.true) e) }
 
 pub returns : goal.returns
 unfolding less

@@ -20,6 +20,6 @@ write_text-length-requires c =
 pub returns : goal.returns
 returns c =
     let said =
-        export_done _ _ _ c.judge_export-outcome.ensures.answer c.in-Done.is c.figures_of-figures.ensures.0
-        c.write_text-length.ensures in
+    export_done _ _ _ c.judge_export-outcome.ensures.answer c.in-Done.is c.figures_of-figures.ensures.0
+    c.write_text-length.ensures in
     record { answer = said.0; buffer = said.1 }

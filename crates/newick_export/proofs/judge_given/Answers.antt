@@ -42,8 +42,8 @@ returns-in_default-rules c =
     let refused = c.in_default-rules.is in
     let at = goal.at.returns-in_default-rules c in
     let told =
-        go_on _ c.judge_sizes-sizes.ensures _ c.in-Done.is
-        (go_stops _ (rules-told at.After-judge-rules (right at.In-Done)) _ refused) in
+    go_on _ c.judge_sizes-sizes.ensures _ c.in-Done.is
+    (go_stops _ (rules-told at.After-judge-rules (right at.In-Done)) _ refused) in
     record { answer = told; index = λ e. absurd (call_stopped _ told refused e) }
 
 pub judge_names-requires : goal.judge_names-requires

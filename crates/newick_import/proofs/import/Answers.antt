@@ -34,8 +34,8 @@ unfolding import_answer
 returns-in_default c =
     let told = judged (goal.at.returns-in_default c).After-index_sheet-judged in
     let said =
-        with_meaning outcome (ImportMeans _ _ _) (import_answer _ _ _) (import_answer_says _ _ _)
-        (unless_told _ _ _ _ _ told c.in_default.is) in
+    with_meaning outcome (ImportMeans _ _ _) (import_answer _ _ _) (import_answer_says _ _ _)
+    (unless_told _ _ _ _ _ told c.in_default.is) in
     record { answer = said.0; buffer = said.1.0; meaning = said.1.1 }
 
 pub import_indexed-requires : goal.import_indexed-requires
@@ -53,6 +53,6 @@ returns c =
     let passed = call_passed _ (judged (goal.at.returns c).After-index_sheet-judged) c.in-Done.is in
     let made = c.import_indexed.ensures in
     let said =
-        with_meaning outcome (ImportMeans _ _ _) (import_answer _ _ _) (import_answer_says _ _ _)
-        (unless_none _ _ _ _ _ passed (made.answer, made.buffer)) in
+    with_meaning outcome (ImportMeans _ _ _) (import_answer _ _ _) (import_answer_says _ _ _)
+    (unless_none _ _ _ _ _ passed (made.answer, made.buffer)) in
     record { answer = said.0; buffer = said.1.0; meaning = said.1.1 }

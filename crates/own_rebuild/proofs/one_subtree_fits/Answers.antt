@@ -31,7 +31,8 @@ pub returns-then-not-as_expected : goal.returns-then-not-as_expected
 returns-then-not-as_expected c =
     let k = c.loop-k.k in
     let off = unexpected _ _ _ c.as_expected.ensures (ap not c.if-not-as_expected.true) in
-    says_no (λ w. off (first_cell (goal.at.returns-then-not-as_expected c).After-cell_at-cell ∙ (w k (omega arith) (omega arith)).1))
+    says_no (λ w. off (first_cell (goal.at.returns-then-not-as_expected c).After-cell_at-cell
+    ∙ (w k (omega arith) (omega arith)).1))
 
 pub loop-k-preserved : goal.loop-k-preserved
 loop-k-preserved c =

@@ -14,7 +14,8 @@ count : (c : Else-not-leaf_count) → IsLeafCount c.args.n
 count c = is_count Counts _ (sym c.leaf_count.ensures ∙ c.if-not-leaf_count.false)
 
 pub returns-then-not-leaf_count : goal.returns-then-not-leaf_count
-returns-then-not-leaf_count c = λ h. absurd (count_wrong Counts _ (sym c.leaf_count.ensures ∙ c.if-not-leaf_count.true) h)
+returns-then-not-leaf_count c =
+    λ h. absurd (count_wrong Counts _ (sym c.leaf_count.ensures ∙ c.if-not-leaf_count.true) h)
 
 pub overflow_sub-result : goal.overflow_sub-result
 overflow_sub-result c = omega (arith, count c)

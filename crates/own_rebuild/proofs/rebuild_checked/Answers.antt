@@ -63,7 +63,8 @@ slice_bounds-rows-end c = omega (arith, (given (goal.at.slice_bounds-rows-end c)
 pub slice_bounds-standardise-end : goal.slice_bounds-standardise-end
 slice_bounds-standardise-end c =
     let listed = c.merge_leaves.ensures.all_merged.forest.listed in
-    sym (length-take-le _ _ (omega (arith, listed.rows_long, (given (goal.at.slice_bounds-standardise-end c).After-scaled_counts-p).1.leaf_count)))
+    sym (length-take-le _ _ (omega
+    (arith, listed.rows_long, (given (goal.at.slice_bounds-standardise-end c).After-scaled_counts-p).1.leaf_count)))
 
 pub returns : goal.returns
 returns c =

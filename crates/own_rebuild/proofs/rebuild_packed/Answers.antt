@@ -61,8 +61,11 @@ packed-meant :
 packed-meant c t = as_packed _ t _ (packed_passes _ _ ((right c).count, (right c).long))
 
 pub rebuild_checked-requires : goal.rebuild_checked-requires
-rebuild_checked-requires c =
-    ((right (goal.at.rebuild_checked-requires c).In-Done).count, rw (packed-meant (goal.at.rebuild_checked-requires c).In-Done []) (sheet_is_table _ _), (right (goal.at.rebuild_checked-requires c).In-Done).enough)
+rebuild_checked-requires c = (
+  (right (goal.at.rebuild_checked-requires c).In-Done).count,
+  rw (packed-meant (goal.at.rebuild_checked-requires c).In-Done []) (sheet_is_table _ _),
+  (right (goal.at.rebuild_checked-requires c).In-Done).enough,
+)
 
 pub returns : goal.returns
 unfolding packed_answer

@@ -46,13 +46,18 @@ judged c =
 
 pub returns-then-count_right-n : goal.returns-then-count_right-n
 unfolding is_own_table
-returns-then-count_right-n c = sym ((judged (goal.at.returns-then-count_right-n c).After-count_right).some_wrong c.if-count_right-n.true)
+returns-then-count_right-n c =
+    sym ((judged (goal.at.returns-then-count_right-n c).After-count_right).some_wrong c.if-count_right-n.true)
 
 pub loop-p-preserved : goal.loop-p-preserved
 loop-p-preserved c =
     let found = c.next_row-base.ensures in
-    let i = c.loop-p in
-    (omega arith, tops_more found.1, rows_more i.invariant.2 ((judged (goal.at.loop-p-preserved c).After-count_right).all_right c.if-count_right-n.false))
+    let i = c.loop-p in (
+      omega arith,
+      tops_more found.1,
+      rows_more i.invariant.2 ((judged (goal.at.loop-p-preserved c).After-count_right).all_right
+          c.if-count_right-n.false),
+    )
 
 pub returns : goal.returns
 unfolding is_own_table

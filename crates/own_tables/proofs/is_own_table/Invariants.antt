@@ -7,7 +7,8 @@ use Rattle.own_tables.proofs.is_own_table.Given as goal
 
 abbrev pub invariant-loop-p : goal.invariant-loop-p
 invariant-loop-p l =
-    (l.p ≤ l.n) × TopsBefore l.n l.aboves l.order l.depth l.p l.tops × RowsHold l.n l.order (cell_at l.n l.listing) l.cells l.p
+    (l.p ≤ l.n) × TopsBefore l.n l.aboves l.order l.depth l.p l.tops
+    × RowsHold l.n l.order (cell_at l.n l.listing) l.cells l.p
 
 abbrev pub decreases-loop-p : goal.decreases-loop-p
 decreases-loop-p l = l.n - l.p

@@ -15,7 +15,8 @@ count : (c : Else-not-leaf_count_of) → IsCountOf Poll c.args.n
 count c = is_count Poll _ (sym c.leaf_count_of.ensures ∙ c.if-not-leaf_count_of.false)
 
 pub returns-then-not-leaf_count_of : goal.returns-then-not-leaf_count_of
-returns-then-not-leaf_count_of c = λ h. absurd (count_wrong Poll _ (sym c.leaf_count_of.ensures ∙ c.if-not-leaf_count_of.true) h)
+returns-then-not-leaf_count_of c =
+    λ h. absurd (count_wrong Poll _ (sym c.leaf_count_of.ensures ∙ c.if-not-leaf_count_of.true) h)
 
 pub overflow_sub-result : goal.overflow_sub-result
 overflow_sub-result c = omega (arith, count c)

@@ -1,6 +1,7 @@
 -- Rows and chain in arrays: how two subtrees are joined there, and the rows that the chain makes behind those written
 -- so far. No public contract cites this.
-use Rattle.std.specs.Prelude.{◌≡◌, ◌≢◌, cond, List, [], ◌∷◌, ◌++◌, ℕ, zero, suc, ◌+◌, ◌-◌, ◌*◌, ◌≤◌, ◌<◌, eqb, length, get_or, set, take}
+use Rattle.std.specs.Prelude.{◌≡◌, ◌≢◌, cond, List, [], ◌∷◌, ◌++◌, ℕ, zero, suc, ◌+◌, ◌-◌, ◌*◌, ◌≤◌, ◌<◌, eqb, length}
+use Rattle.std.specs.Prelude.{get_or, set, take}
 use Rattle.limits.specs.Limits.{most_leaves, most_numbers}
 use Rattle.rerooted_rows.specs.declared.Joined.{Joined}
 use Rattle.rerooted_rows.specs.inner.Joining.{joined_number, joined_count, chain_rows}

@@ -3,7 +3,8 @@
 -- number 0, and the number of the other is put before the chain. When all is joined, the chain holds the subtrees
 -- beside the way from leaf 0 to the top, and the rows of the tree rerooted at leaf 0 are made of it. No public contract
 -- cites this.
-use Rattle.std.specs.Prelude.{◌≡◌, ◌⊎◌, Bool, true, false, not, cond, ◌&&◌, ◌||◌, List, [], ◌∷◌, ◌++◌, ℕ, suc, ◌+◌, ◌*◌, ltb, eqb, length}
+use Rattle.std.specs.Prelude.{◌≡◌, ◌⊎◌, Bool, true, false, not, cond, ◌&&◌, ◌||◌, List, [], ◌∷◌, ◌++◌, ℕ, suc, ◌+◌}
+use Rattle.std.specs.Prelude.{◌*◌, ltb, eqb, length}
 use Rattle.base.specs.Numbers.{indicator}
 use Rattle.trees.specs.Trees.{Tree, leaf, node, leaves}
 use Rattle.trees.specs.inner.Forests.{unused, uses, lawful}

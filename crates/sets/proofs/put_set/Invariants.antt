@@ -7,7 +7,8 @@ use Rattle.limits.specs.Limits.{set_bytes}
 use Rattle.sets.proofs.put_set.Given as goal
 
 abbrev pub invariant-loop-i : goal.invariant-loop-i
-invariant-loop-i l = (l.i ≤ set_bytes) × (length l.out ≡ length l.initial.out) × (l.out ≡ paste l.initial.out l.at l.s l.i)
+invariant-loop-i l =
+    (l.i ≤ set_bytes) × (length l.out ≡ length l.initial.out) × (l.out ≡ paste l.initial.out l.at l.s l.i)
 
 abbrev pub decreases-loop-i : goal.decreases-loop-i
 decreases-loop-i l = set_bytes - l.i

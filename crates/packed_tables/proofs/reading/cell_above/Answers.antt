@@ -28,4 +28,5 @@ pair_at-requires c = ends c
 
 pub returns : goal.returns
 returns c =
-    rw (← c.cells_before.ensures) (c.pair_at.ensures.0 ∙ sym (cell_in_bytes _ _ _ (below (goal.at.returns c).After-cells_before)))
+    rw (← c.cells_before.ensures)
+    (c.pair_at.ensures.0 ∙ sym (cell_in_bytes _ _ _ (below (goal.at.returns c).After-cells_before)))

@@ -12,7 +12,8 @@ invariant-loop-j l =
     (l.j ≤ l.n)
     × (l.i < l.j)
     × (length l.out ≡ length l.initial.out)
-    × ((base : List ℕ) → l.n ≤ length base → l.initial.out ≡ filled (l.i + 1) (mirrored l.n (packed_cells l.n l.packed) l.i) base
+    × ((base : List ℕ) → l.n ≤ length base → l.initial.out
+    ≡ filled (l.i + 1) (mirrored l.n (packed_cells l.n l.packed) l.i) base
     → l.out ≡ filled l.j (mirrored l.n (packed_cells l.n l.packed) l.i) base)
 
 abbrev pub decreases-loop-j : goal.decreases-loop-j

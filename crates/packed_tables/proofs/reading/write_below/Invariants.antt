@@ -8,7 +8,8 @@ use Rattle.packed_tables.proofs.reading.write_below.Given as goal
 
 abbrev pub invariant-loop-j : goal.invariant-loop-j
 invariant-loop-j l =
-    (l.j ≤ l.i) × (length l.out ≡ length l.initial.out) × (l.out ≡ filled l.j (mirrored l.n (packed_cells l.n l.packed) l.i) l.initial.out)
+    (l.j ≤ l.i) × (length l.out ≡ length l.initial.out)
+    × (l.out ≡ filled l.j (mirrored l.n (packed_cells l.n l.packed) l.i) l.initial.out)
 
 abbrev pub decreases-loop-j : goal.decreases-loop-j
 decreases-loop-j l = l.i - l.j

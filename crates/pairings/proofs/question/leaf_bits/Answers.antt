@@ -13,16 +13,20 @@ four : (c : Start) → FourAsked c.args.n c.args.q
 four c = question_four c.args.n c.args.q (omega arith) c.requires.1
 
 pub bounds-under-index_of_u16 : goal.bounds-under-index_of_u16
-bounds-under-index_of_u16 c = omega (arith, c.index_of_u16.ensures, (four (goal.at.bounds-under-index_of_u16 c).Start).leaf_a)
+bounds-under-index_of_u16 c =
+    omega (arith, c.index_of_u16.ensures, (four (goal.at.bounds-under-index_of_u16 c).Start).leaf_a)
 
 pub bounds-under-index_of_u16-2 : goal.bounds-under-index_of_u16-2
-bounds-under-index_of_u16-2 c = omega (arith, c.index_of_u16-2.ensures, (four (goal.at.bounds-under-index_of_u16-2 c).Start).leaf_b)
+bounds-under-index_of_u16-2 c =
+    omega (arith, c.index_of_u16-2.ensures, (four (goal.at.bounds-under-index_of_u16-2 c).Start).leaf_b)
 
 pub bounds-under-index_of_u16-3 : goal.bounds-under-index_of_u16-3
-bounds-under-index_of_u16-3 c = omega (arith, c.index_of_u16-3.ensures, (four (goal.at.bounds-under-index_of_u16-3 c).Start).leaf_c)
+bounds-under-index_of_u16-3 c =
+    omega (arith, c.index_of_u16-3.ensures, (four (goal.at.bounds-under-index_of_u16-3 c).Start).leaf_c)
 
 pub bounds-under-index_of_u16-4 : goal.bounds-under-index_of_u16-4
-bounds-under-index_of_u16-4 c = omega (arith, c.index_of_u16-4.ensures, (four (goal.at.bounds-under-index_of_u16-4 c).Start).leaf_d)
+bounds-under-index_of_u16-4 c =
+    omega (arith, c.index_of_u16-4.ensures, (four (goal.at.bounds-under-index_of_u16-4 c).Start).leaf_d)
 
 pub returns : goal.returns
 returns c =

@@ -41,7 +41,8 @@ returns-then-found-lt3 c =
     let row : l.k < c.args.n - 2 = omega arith in
     let passed = l.invariant.2 c.args.q c.leaf_bits-under.ensures.1 (four (goal.at.returns-then-found-lt3 c).Start) in
     rw c.shown-found.ensures
-    (row_shows c.args.n c.args.listing.now c.requires.0 c.requires.1 c.args.q (four (goal.at.returns-then-found-lt3 c).Start) l.under row
+    (row_shows c.args.n c.args.listing.now c.requires.0 c.requires.1 c.args.q
+    (four (goal.at.returns-then-found-lt3 c).Start) l.under row
     (this (goal.at.returns-then-found-lt3 c).After-row_at-r) passed (rw c.shown-found.ensures at c.if-found-lt3.true))
 
 pub loop-k-preserved : goal.loop-k-preserved

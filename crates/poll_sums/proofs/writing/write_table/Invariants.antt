@@ -13,7 +13,8 @@ table-cell n sums k = mirrored_sum n sums (k / n) (k % n)
 
 abbrev pub invariant-loop-k : goal.invariant-loop-k
 invariant-loop-k l =
-    (l.k ≤ l.m) × (l.at.column < l.n) × (l.at.row * l.n + l.at.column ≡ l.k) × (l.out ≡ filled l.k (table-cell l.n l.sums) l.initial.out)
+    (l.k ≤ l.m) × (l.at.column < l.n) × (l.at.row * l.n + l.at.column ≡ l.k)
+    × (l.out ≡ filled l.k (table-cell l.n l.sums) l.initial.out)
 
 abbrev pub decreases-loop-k : goal.decreases-loop-k
 decreases-loop-k l = l.m - l.k

@@ -1,4 +1,5 @@
--- `polls::walk::tally` meets its contract: nothing is found wrong before a record that is taken, and after the last turn
+-- `polls::walk::tally` meets its contract: nothing is found wrong before a record that is taken, and after the last
+-- turn
 -- something was, or no record is left.
 use mathlib.Core.Path.{◌≡◌, ap, ◌∙◌}
 use Prim.Native.Nat.{zero-le, ◌<◌}

@@ -34,7 +34,8 @@ by-words s =
 pub returns-then-a-i : goal.returns-then-a-i
 returns-then-a-i c =
     let l = c.loop-i in
-    sym (by-words (goal.at.returns-then-a-i c).Start ∙ is_false _ (λ h. c.if-a-i.true (eqb-true _ _ (all_true set_words _ h l.i (omega arith)))))
+    sym (by-words (goal.at.returns-then-a-i c).Start
+    ∙ is_false _ (λ h. c.if-a-i.true (eqb-true _ _ (all_true set_words _ h l.i (omega arith)))))
 
 pub loop-i-preserved : goal.loop-i-preserved
 loop-i-preserved c = (omega arith, below_more _ _ c.loop-i.invariant.1 c.if-a-i.false)
