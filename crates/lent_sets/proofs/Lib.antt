@@ -1,1 +1,2 @@
 mod LentSets
+mod Pairs

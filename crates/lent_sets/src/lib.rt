@@ -12,6 +12,7 @@ use refusals::{Outcome, Refusal, Verdict};
 use sets::Combination;
 
 // The lengths of two lent sets: 2.
+#[tactic(auto, using(crate::proofs::Pairs::a_is_off, crate::proofs::Pairs::b_is_off, crate::proofs::Pairs::both_fit))]
 fn judge_pair(a: usize, b: usize) -> Outcome
     ensures { result ≡ outcome_of (pair_refusal a b) }
 {

@@ -2,14 +2,14 @@
 -- a byte breaks the grammar, it says what import answers.
 use mathlib.Core.Path.{◌≡◌, refl, ap, sym, ◌∙◌}
 use mathlib.Core.Logic.{inl, inr, ◌≢◌}
-use mathlib.Core.Bool.{Bool, true, false, ◌&&◌}
+use mathlib.Core.Bool.{Bool, true, false, ◌&&◌, not}
 use mathlib.Core.List.{List, [], ◌∷◌, ◌++◌}
 use mathlib.Core.Option.{Option, none, some}
 use Prim.Native.Nat.{ℕ, zero, suc, ◌+◌, ◌-◌, ◌≤◌, ◌<◌}
 use native.Mathlib.Numerals.{add-one}
 use native.Mathlib.Omega.{arith}
 use native.Mathlib.Decide.{ℕ_discrete}
-use borrow.Author.Tests.{eqb-true, ne_eqb, eq-eqb}
+use borrow.Author.Tests.{eqb-true, ne_eqb, eq-eqb, not-false}
 use lib.Dec.{eqb, ltb}
 use lib.ListN.{length, get_or, drop, replicate, length-replicate, length-drop, drop_of_length-le}
 use lib.Seq.{drop-cons, take-suc, get_or-drop}
@@ -84,6 +84,14 @@ module _ (n : ℕ) (K : Kept) where
     pub all_right : K.named ≡ true → K.many ≡ n → Done ≡ outcome_of (kept_refusal n K)
     unfolding kept_refusal refuse judged outcome_of
     all_right u e = rw (t, u, eq-eqb K.many n e)
+
+  -- the last two, as the code's tests say what holds
+  pub few_named :
+      not K.binary ≡ false → not K.named ≡ false → K.many ≢ n → Refused Unmatched ≡ outcome_of (kept_refusal n K)
+  few_named t u d = not_all (not-false _ t) (not-false _ u) d
+
+  pub all_named : not K.binary ≡ false → not K.named ≡ false → K.many ≡ n → Done ≡ outcome_of (kept_refusal n K)
+  all_named t u e = all_right (not-false _ t) (not-false _ u) e
 
 -- The name that the reader is in.
 

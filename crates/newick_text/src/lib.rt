@@ -49,6 +49,7 @@ fn name_hash(state: u8, after: u8, hash: u64, b: u8) -> u64
 }
 
 // What is judged of a text that keeps the grammar, by what is kept of it: 18, 19.
+#[tactic(auto, using(crate::proofs::Texts::few_named, crate::proofs::Texts::all_named))]
 fn judge_kept(n: usize, kept: Kept) -> Outcome
     ensures { result ≡ outcome_of (kept_refusal n kept) }
 {

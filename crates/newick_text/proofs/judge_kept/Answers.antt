@@ -1,6 +1,6 @@
 -- `newick_text::judge_kept` meets its contract: its tests are those of `kept_refusal`, in order.
 use borrow.Author.Tests.{not-true, not-false}
-use Rattle.newick_text.proofs.Texts.{not_binary, not_named, not_all, all_right}
+use Rattle.newick_text.proofs.Texts.{not_binary, not_named}
 use Rattle.newick_text.proofs.judge_kept.Goals as goal
 
 pub returns-then-not-kept : goal.returns-then-not-kept
@@ -8,11 +8,3 @@ returns-then-not-kept c = not_binary _ _ (not-true _ c.if-not-kept.true)
 
 pub returns-then-not-kept-2 : goal.returns-then-not-kept-2
 returns-then-not-kept-2 c = not_named _ _ (not-false _ c.if-not-kept.false) (not-true _ c.if-not-kept-2.true)
-
-pub returns-then-kept-n : goal.returns-then-kept-n
-returns-then-kept-n c =
-    not_all _ _ (not-false _ c.if-not-kept.false) (not-false _ c.if-not-kept-2.false) c.if-kept-n.true
-
-pub returns : goal.returns
-returns c =
-    all_right _ _ (not-false _ c.if-not-kept.false) (not-false _ c.if-not-kept-2.false) c.if-kept-n.false
