@@ -22,7 +22,7 @@ use Rattle.trees.specs.Gaps.{total_gap}
 use Rattle.trees.proofs.Gaps.{gap_fits}
 use Rattle.merging.specs.Rebuilds.{rebuilt}
 use Rattle.merging.specs.Guesses.{Reply, exact, guessed, replied}
-use Rattle.merging.specs.Meaning.{HasNoTree, TableMeans, the-only-tree, no_tree}
+use Rattle.merging.specs.Meaning.{HasNoTree, TableMeans, the_only_tree, no_tree}
 use Rattle.merging.proofs.Meaning.{rebuilt_means}
 use Rattle.merging.proofs.Guesses.{replied_exact, replied_guessed, guess_rough}
 use Rattle.merging.proofs.GuessLaws as laws
@@ -88,7 +88,7 @@ module _ {o : Option Refusal} {n s : ℕ} {t : List ℕ} (b : Before o n s t) wh
         by :
             {a : Answer (List ℕ)} → TableMeans n s t a → rebuilt n s t ≡ a
             → ReplyMeans n s t (accepted (replied n s t))
-        by (the-only-tree {l} h) e = rw (replied_exact n s t l e) (means.the-only-tree h)
+        by (the_only_tree {l} h) e = rw (replied_exact n s t l e) (means.the_only_tree h)
         by (no_tree h) e =
             let same = replied_guessed n s t NoTree e in
             let r = rw same at (laws.reply_is n count s b.positive t table) in
@@ -103,7 +103,7 @@ module _ {o : Option Refusal} {n s : ℕ} {t : List ℕ} (b : Before o n s t) wh
     only_six r = by (rebuilt_means n count s b.positive t table)
       where
         by : {a : Answer (List ℕ)} → TableMeans n s t a → a ≡ refused r → r ≡ NoTree
-        by (the-only-tree h) e = absurd (accepted_not_refused _ r e)
+        by (the_only_tree h) e = absurd (accepted_not_refused _ r e)
         by (no_tree h) e = cc
 
   pub guess_means : MeansUnless o (ReplyMeans n s t) guess
@@ -146,7 +146,7 @@ module _ {o : Option Refusal} {n s : ℕ} {t : List ℕ} (b : Before o n s t) wh
       listed passes e = by (rebuilt_means n (count passes) s b.positive t (table passes)) refl
         where
           by : {a : Answer (List ℕ)} → TableMeans n s t a → rebuilt n s t ≡ a → rebuilt n s t ≡ accepted l
-          by (the-only-tree {l = k} h) f = f ∙ ap accepted (ap (λ r. r.listing) (sym (replied_exact n s t k f) ∙ e))
+          by (the_only_tree {l = k} h) f = f ∙ ap accepted (ap (λ r. r.listing) (sym (replied_exact n s t k f) ∙ e))
           by (no_tree h) f = absurd (marks_differ n s t l (sym (replied_guessed n s t NoTree f) ∙ e))
 
   -- Where the rebuild says 6, it is the guess.

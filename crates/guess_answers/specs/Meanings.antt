@@ -27,7 +27,7 @@ pub record IsGuess (n s : ℕ) (t l : List ℕ) (total : ℕ) : Type 0 where
 -- the reply to a table with a zero diagonal and equal halves: its only tree, rebuilt, with the total gap 0; or it has
 -- none, and the tree is a guess, with its total gap
 pub data ReplyMeans (n s : ℕ) (t : List ℕ) : Answer Reply → Type 0 where
-  the-only-tree : {l : List ℕ} → OnlyTree n s t l → ReplyMeans n s t (accepted (exact l))
+  the_only_tree : {l : List ℕ} → OnlyTree n s t l → ReplyMeans n s t (accepted (exact l))
   a_guess :
       {l : List ℕ} {total : ℕ} → HasNoTree n s t → IsGuess n s t l total
       → ReplyMeans n s t (accepted (record { listing = l; origin = Guessed; total = total }))

@@ -44,7 +44,7 @@ module _ (S : List ℕ) (room : ℕ) (h : sheet_refusal S (2 * (leaves_of S - 2)
   pub few_cells : n * n ≤ most_cells
   few_cells = mul-le-mul sheet_count.1 sheet_count.1
 
-  -- its table stands at the front of an array of most-cells
+  -- its table stands at the front of an array of most_cells
   pub table_in_front :
       (cells : List ℕ) → take (n * n) (written (sheet_table_answer S most_cells) cells) ≡ table_with n (cells_of S)
   unfolding sheet_table_answer answered written

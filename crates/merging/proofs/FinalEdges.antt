@@ -225,8 +225,8 @@ module _ (n : ℕ) (big : 3 ≤ n) (M : List Pair) (p : Pair) (size_M : length M
     | inr e ↦ same_sym n B A (held_same n B A (held_on n (node B A) (rw e at held)))
   ])
 
-  the-edges : FinalEdges n L
-  the-edges = record {
+  the_edges : FinalEdges n L
+  the_edges = record {
     each_is_a_side =
         rw (tree_is, sides_are, all_map (is_edge n T) leaves parts)
         (every_part (λ X. is_edge n T (leaves X)) part_edge);
@@ -243,7 +243,7 @@ merged_edges n big L many ok =
     let cut = split_last (n - 2) L (omega arith) in
     let many' = subst (λ (K : List Pair). length K ≡ n - 1) cut.3 many in
     let ok' = subst (Merges n start) cut.3 ok in
-    subst (FinalEdges n) (sym cut.3) (the-edges n big cut.0 cut.1 cut.2 many' ok')
+    subst (FinalEdges n) (sym cut.3) (the_edges n big cut.0 cut.1 cut.2 many' ok')
 
 -- so has that left by n − 1 eligible ones
 pub final_edges :

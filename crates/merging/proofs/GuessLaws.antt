@@ -27,7 +27,7 @@ use Rattle.merging.specs.Merging.{State, start, step}
 use Rattle.merging.specs.MergeLists.{Pair, allowed, after, each_eligible, final_tree, final_listing}
 use Rattle.merging.specs.Rebuilds.{rebuilt}
 use Rattle.merging.specs.Guesses.{IsNearest, guess, Reply, exact, guessed, replied}
-use Rattle.merging.specs.Meaning.{OnlyTree, HasNoTree, TableMeans, the-only-tree, no_tree}
+use Rattle.merging.specs.Meaning.{OnlyTree, HasNoTree, TableMeans, the_only_tree, no_tree}
 use Rattle.merging.specs.inner.Runs.{Eligible}
 use Rattle.merging.proofs.States.{WellFormed, wf_start, wf_step}
 use Rattle.merging.proofs.MergeLists.{Merges, wf_after, full_single, final_keeps, final_standard, final_read}
@@ -105,7 +105,7 @@ module _ (n : ℕ) (count : IsLeafCount n) (s : ℕ) (sp : 0 < s) (t : List ℕ)
   case = by (rebuilt_means n count s sp t table) refl
     where
       by : {a : Answer (List ℕ)} → TableMeans n s t a → rebuilt n s t ≡ a → Case (replied n s t)
-      by (the-only-tree {l} h) e = rw (replied_exact n s t l e) (one h)
+      by (the_only_tree {l} h) e = rw (replied_exact n s t l e) (one h)
       by (no_tree h) e = rw (replied_guessed n s t NoTree e) (rough h)
 
   -- the reply is a tree on those strains, by its standard listing, with its total gap

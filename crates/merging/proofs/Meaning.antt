@@ -19,7 +19,7 @@ use Rattle.trees.specs.Tables.{HasTable, IsTable}
 use Rattle.merging.specs.MergeLists.{Pair, after, each_eligible, Finished, subtrees, final_listing}
 use Rattle.merging.specs.Rebuilds.{rebuilt, guided}
 use Rattle.merging.specs.Demand3.{OneTree, NoTreeHas, FirstIneligible}
-use Rattle.merging.specs.Meaning.{OnlyTree, HasTree, HasNoTree, TableMeans, the-only-tree, no_tree}
+use Rattle.merging.specs.Meaning.{OnlyTree, HasTree, HasNoTree, TableMeans, the_only_tree, no_tree}
 use Rattle.merging.specs.Meaning.{ProposalsMean, each_is_eligible, one_is_not}
 use Rattle.merging.proofs.Rebuilds.{own_list, own_finished, guided_accepted, guided_refused, first_refused}
 use Rattle.merging.proofs.Demand3.{demand_3, guided_own}
@@ -31,25 +31,25 @@ only_one n s t l l' h h' = sym h.is_standard ∙ h'.no_other l h.keeps_rules h.h
 -- the meaning of our own rebuild's answer, and what follows of an answer that has it
 module _ (n s : ℕ) (t : List ℕ) where
   pub meant_only : {a : Answer (List ℕ)} → TableMeans n s t a → (l : List ℕ) → a ≡ accepted l → OnlyTree n s t l
-  meant_only (the-only-tree h) l e = rw (accepted_same _ l e) at h
+  meant_only (the_only_tree h) l e = rw (accepted_same _ l e) at h
   meant_only (no_tree h) l e = absurd (accepted_not_refused l NoTree (sym e))
 
   pub meant_accepted : {a : Answer (List ℕ)} → TableMeans n s t a → ((l : List ℕ) × (a ≡ accepted l)) ↔ HasTree n s t
-  meant_accepted (the-only-tree {l} h) = (λ e. (l, h.keeps_rules, h.has_table), λ e. (l, refl))
+  meant_accepted (the_only_tree {l} h) = (λ e. (l, h.keeps_rules, h.has_table), λ e. (l, refl))
   meant_accepted (no_tree h) = (
     λ e. absurd (accepted_not_refused e.0 NoTree (sym e.1)),
     λ e. absurd (h e.0 e.1 e.2),
   )
 
   pub meant_refused : {a : Answer (List ℕ)} → TableMeans n s t a → (a ≡ refused NoTree) ↔ HasNoTree n s t
-  meant_refused (the-only-tree {l} h) = (
+  meant_refused (the_only_tree {l} h) = (
     λ e. absurd (accepted_not_refused l NoTree e),
     λ none. absurd (none l h.keeps_rules h.has_table),
   )
   meant_refused (no_tree h) = (λ e. h, λ e. refl)
 
   pub table_fixed : {a b : Answer (List ℕ)} → TableMeans n s t a → TableMeans n s t b → a ≡ b
-  table_fixed (the-only-tree h) g =
+  table_fixed (the_only_tree h) g =
       let some_tree = (meant_accepted g).1 (_, h.keeps_rules, h.has_table) in
       ap accepted (only_one n s t _ _ h (meant_only g some_tree.0 some_tree.1)) ∙ sym some_tree.1
   table_fixed (no_tree h) g = sym ((meant_refused g).1 h)
@@ -88,7 +88,7 @@ module _ (n : ℕ) (count : IsLeafCount n) (s : ℕ) (sp : 0 < s) (t : List ℕ)
 
   pub rebuilt_means : TableMeans n s t (rebuilt n s t)
   rebuilt_means = elim either [
-    | inl one ↦ rw one.from_c (the-only-tree (only_left one))
+    | inl one ↦ rw one.from_c (the_only_tree (only_left one))
     | inr several ↦ rw several.from_c (no_tree several.none_has_the_table)
   ]
 

@@ -25,7 +25,7 @@ HasNoTree n s t = (l : List ℕ) → KeepsRules n l → HasTable n s t (tree_of 
 
 -- our own rebuild of a table with a zero diagonal and equal halves: the listing of its only tree, or 6
 pub data TableMeans (n s : ℕ) (t : List ℕ) : Answer (List ℕ) → Type 0 where
-  the-only-tree : {l : List ℕ} → OnlyTree n s t l → TableMeans n s t (accepted l)
+  the_only_tree : {l : List ℕ} → OnlyTree n s t l → TableMeans n s t (accepted l)
   no_tree : HasNoTree n s t → TableMeans n s t (refused NoTree)
 
 -- the guided rebuild of such a table, by n − 1 proposals L: where each names a pair eligible at its turn, the listing

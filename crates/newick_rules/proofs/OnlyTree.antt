@@ -14,7 +14,7 @@ use Rattle.refusals.specs.Refusals.{Answer, accepted, refuse, judged, answered}
 use Rattle.trees.specs.Trees.{Tree, LeafSet, leaves, IsTree}
 use Rattle.trees.specs.Listings.{tree_of, standard}
 use Rattle.trees.specs.Edges.{edges, one_edge, is_edge, same_edges}
-use Rattle.trees.proofs.Subtrees.{the-edge, every_edge, each_edge, Same, one_edge_same, subtree_edge}
+use Rattle.trees.proofs.Subtrees.{the_edge, every_edge, each_edge, Same, one_edge_same, subtree_edge}
 use Rattle.trees.proofs.Rules.{listing_tree}
 use Rattle.merging.proofs.SameTree.{same_listing}
 use Rattle.newick_rules.specs.Drawings.{bracket, Parts, names_in}
@@ -52,7 +52,7 @@ module _ (n : ℕ) where
       let q = and_both (is_edge n T e) (all_in (is_edge n T) l) p in
       elim (or_cases (one_edge n (leaves X) e) (any_in (one_edge n (leaves X)) l) h) [
         | inl u ↦
-            let y = the-edge (one_edge n e) T q.0 in
+            let y = the_edge (one_edge n e) T q.0 in
             subtree_edge n T X y.0 y.1 (edge_through e X y.0 u y.2)
         | inr v ↦ side_edge T X l q.1 v
       ]

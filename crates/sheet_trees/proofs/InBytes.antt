@@ -84,7 +84,7 @@ front_bytes l cells out =
       length_flat 2 (low_first 2) (length_low 2) l,
     )
 
--- A sheet that is accepted with its room for bytes. The numbers have room in most-numbers cells.
+-- A sheet that is accepted with its room for bytes. The numbers have room in most_numbers cells.
 module _ (S : List ℕ) (room : ℕ) (h : sheet_refusal S (4 * (leaves_of S - 2)) room ≡ none) where
   pub fits : sheet_refusal S (2 * (leaves_of S - 2)) most_numbers ≡ none
   fits =

@@ -14,7 +14,7 @@ use Rattle.base.proofs.Counts.{indicator_none, indicator_add}
 use Rattle.trees.specs.Trees.{Tree, leaf, node, LeafSet, leaves, occurrences}
 use Rattle.trees.specs.Quartets.{separates, paired}
 use Rattle.trees.proofs.Trees.{leaves_node, leaf_has, occurs_leaves}
-use Rattle.trees.proofs.Subtrees.{sub_of, the-edge}
+use Rattle.trees.proofs.Subtrees.{sub_of, the_edge}
 use Rattle.trees.proofs.Quartets.{separates_at, separates_ext, paired_node, paired_root}
 use Rattle.spanned_trees.specs.Spans.{meets, kept}
 
@@ -26,7 +26,7 @@ separates_none e i j p q a b = rw (a, b)
 paired_none : (T : Tree) (i j p q : ℕ) → leaves T i ≡ false → leaves T p ≡ false → paired T i j p q ≡ false
 unfolding paired
 paired_none T i j p q a b = is_false _ (λ t.
-    let x = the-edge (λ e. separates e i j p q) T t in
+    let x = the_edge (λ e. separates e i j p q) T t in
     let none : (k : ℕ) → leaves T k ≡ false → leaves x.0 k ≡ false =
     λ k f. is_false _ (λ h. never (sub_of T x.0 x.1 k h) f) in
     never x.2 (separates_none (leaves x.0) i j p q (none i a) (none p b)))

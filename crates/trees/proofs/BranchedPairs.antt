@@ -17,7 +17,7 @@ use Rattle.trees.specs.Trees.{Tree, leaf, node, leaves, size, least, join}
 use Rattle.trees.specs.Edges.{edges}
 use Rattle.trees.proofs.Trees.{leaves_node, Apart, apart_sym, Distinct, Within, within_left, within_right}
 use Rattle.trees.proofs.Trees.{size_node, size_pos, size_count}
-use Rattle.trees.proofs.Subtrees.{in_whole, sub_of, any_leaf, any_node, any_edge, the-edge}
+use Rattle.trees.proofs.Subtrees.{in_whole, sub_of, any_leaf, any_node, any_edge, the_edge}
 
 -- some subtree of X holds p and q and not i
 unfoldable pub branched : Tree → ℕ → ℕ → ℕ → Bool
@@ -46,7 +46,7 @@ branched_node X Y i p q = any_node (λ e. (e p && e q) && not (e i)) X Y
 pub branched_in : (X : Tree) (i p q : ℕ) → branched X i p q ≡ true → (leaves X p ≡ true) × (leaves X q ≡ true)
 unfolding branched
 branched_in X i p q h =
-    let r = the-edge (λ e. (e p && e q) && not (e i)) X h in
+    let r = the_edge (λ e. (e p && e q) && not (e i)) X h in
     let both = and_both (leaves r.0 p && leaves r.0 q) (not (leaves r.0 i)) r.2 in
     let t = and_both (leaves r.0 p) (leaves r.0 q) both.0 in
     (sub_of X r.0 r.1 p t.0, sub_of X r.0 r.1 q t.1)

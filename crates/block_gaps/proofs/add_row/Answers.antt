@@ -15,18 +15,18 @@ module _ (c : Start) where
   first : c.args.i * c.args.n < most_cells
   first = let p = c.requires in omega (arith, (old_place p.0 p.1 p.1).0)
 
-  new-first : c.args.i * (c.args.n + 1) < most_cells
-  new-first =
+  new_first : c.args.i * (c.args.n + 1) < most_cells
+  new_first =
       let p = c.requires in
       let less : c.args.i < c.args.n + 1 = omega arith in
       omega (arith, (new_place p.0 less less).0)
 
 -- and the next ones
 module _ (c : In-loop-j) where
-  old-here :
+  old_here :
       let a = c.args in
       let k = a.i * a.n + c.loop-j.j in (k < most_cells) × (k < length a.table.now)
-  old-here =
+  old_here =
       let p = c.requires in
       old_place p.0 p.1 c.loop-j-test.true
 
@@ -44,13 +44,13 @@ pub overflow_add-new_row : goal.overflow_add-new_row
 overflow_add-new_row c = omega (arith, c.requires.0.few)
 
 pub overflow_mul-new_row : goal.overflow_mul-new_row
-overflow_mul-new_row c = omega (arith, new-first (goal.at.overflow_mul-new_row c).Start)
+overflow_mul-new_row c = omega (arith, new_first (goal.at.overflow_mul-new_row c).Start)
 
 pub loop-j-init : goal.loop-j-init
 loop-j-init c = (omega arith, row_begun, row_begun)
 
 pub offset_bounds-classes-j : goal.offset_bounds-classes-j
-offset_bounds-classes-j c = omega (arith, (old-here c).0)
+offset_bounds-classes-j c = omega (arith, (old_here c).0)
 
 pub bounds-classes-j : goal.bounds-classes-j
 bounds-classes-j c = omega (arith, c.requires.0.few)
@@ -65,13 +65,13 @@ pub bounds-new-new_row : goal.bounds-new-new_row
 bounds-new-new_row c = (new_here (goal.at.bounds-new-new_row c).In-loop-j).1
 
 pub overflow_add-count : goal.overflow_add-count
-overflow_add-count c = omega (arith, (old-here (goal.at.overflow_add-count c).In-loop-j).0)
+overflow_add-count c = omega (arith, (old_here (goal.at.overflow_add-count c).In-loop-j).0)
 
 pub offset_bounds-table-old_row : goal.offset_bounds-table-old_row
-offset_bounds-table-old_row c = omega (arith, (old-here (goal.at.offset_bounds-table-old_row c).In-loop-j).0)
+offset_bounds-table-old_row c = omega (arith, (old_here (goal.at.offset_bounds-table-old_row c).In-loop-j).0)
 
 pub bounds-table-old_row : goal.bounds-table-old_row
-bounds-table-old_row c = (old-here (goal.at.bounds-table-old_row c).In-loop-j).1
+bounds-table-old_row c = (old_here (goal.at.bounds-table-old_row c).In-loop-j).1
 
 pub overflow_mul-scale : goal.overflow_mul-scale
 overflow_mul-scale c =

@@ -70,15 +70,15 @@ bounds-firsts-j c =
     omega (arith, (places (goal.at.bounds-firsts-j c).After-row_at-r).1, c.loop-k.invariant.1.firsts_long)
 
 -- the labels of its two children
-first-label :
+first_label :
     (c : After-index_of_u32-b) → RowOf c.args.n c.args.listing.now c.loop-k.k c.row_at-r.result
     → c.index_of_u32-a.result ≡ get_or c.loop-k.firsts (get_or c.args.listing.now (2 * c.loop-k.k) 0) 0
-first-label c r = c.index_of_u32-a.ensures ∙ ap (λ i. get_or c.loop-k.firsts i 0) r.first_is
+first_label c r = c.index_of_u32-a.ensures ∙ ap (λ i. get_or c.loop-k.firsts i 0) r.first_is
 
-second-label :
+second_label :
     (c : After-index_of_u32-b) → RowOf c.args.n c.args.listing.now c.loop-k.k c.row_at-r.result
     → c.index_of_u32-b.result ≡ get_or c.loop-k.firsts (get_or c.args.listing.now (2 * c.loop-k.k + 1) 0) 0
-second-label c r = c.index_of_u32-b.ensures ∙ ap (λ i. get_or c.loop-k.firsts i 0) r.second_is
+second_label c r = c.index_of_u32-b.ensures ∙ ap (λ i. get_or c.loop-k.firsts i 0) r.second_is
 
 -- a label is a leaf
 low :
@@ -86,13 +86,13 @@ low :
     → c.index_of_u32-a.result < most_leaves
 low c r =
     let held = first_held c.requires.0 c.loop-k-test.true c.loop-k.invariant.1 in
-    omega (arith, first-label c r, held.below, c.requires.0.count)
+    omega (arith, first_label c r, held.below, c.requires.0.count)
 
 pub merge-requires : goal.merge-requires
 merge-requires c =
     let r = the_row (goal.at.merge-requires c).After-row_at-r in
     let b = (goal.at.merge-requires c).After-index_of_u32-b in
-    rw (first-label b r, second-label b r) (merge_ready c.requires.0 c.loop-k-test.true c.loop-k.invariant.1)
+    rw (first_label b r, second_label b r) (merge_ready c.requires.0 c.loop-k-test.true c.loop-k.invariant.1)
 
 pub bounds-firsts-n : goal.bounds-firsts-n
 bounds-firsts-n c = omega (arith, c.loop-k.invariant.1.firsts_long, c.requires.0.count, c.loop-k-test.true)
@@ -105,9 +105,9 @@ loop-k-preserved c =
     let b = (goal.at.loop-k-preserved c).After-index_of_u32-b in
     let kept = c.keep.ensures in
     let kept-too = c.keep-in-loop-k.ensures in
-    let merged = rw (first-label b r, second-label b r) at c.merge.ensures in (
+    let merged = rw (first_label b r, second_label b r) at c.merge.ensures in (
       omega arith,
-      row_joined given c.loop-k-test.true inv.1 merged (rw (first-label b r)),
+      row_joined given c.loop-k-test.true inv.1 merged (rw (first_label b r)),
       rw (
         kept-too.gains,
         kept-too.losses,
@@ -125,13 +125,13 @@ loop-k-preserved c =
 last_edge : (c : After-loop-k) → names_edge c.args.n (2 * c.args.n - 3) ≡ true
 last_edge c = range_edge _ _ (omega (arith, c.requires.0.count)) (omega arith)
 
-last-held :
+last_held :
     (c : After-loop-k)
     → (let a = c.args in
     let l = c.loop-k in
     Held a.n a.scale l.label l.m l.sizes (get_or l.firsts (2 * a.n - 3) 0)
     (subtree_at a.n a.listing.now (2 * a.n - 3)))
-last-held c =
+last_held c =
     let p = c.requires in
     let e : c.loop-k.k ≡ c.args.n - 2 = omega arith in
     (rw e at c.loop-k.invariant.1).held _ (last_free _ _ p.0.count p.0.keeps)
@@ -140,7 +140,7 @@ pub new_row_gap-requires : goal.new_row_gap-requires
 new_row_gap-requires c =
     let given = c.requires.0 in
     let end = (goal.at.new_row_gap-requires c).After-loop-k in
-    let held = last-held end in (
+    let held = last_held end in (
       tables_fit given,
       rw (c.index_of_u32-f.ensures, held.sized) (row_fits given _ (last_edge end) held c.loop-k.invariant.1.small),
     )
@@ -149,7 +149,7 @@ pub returns : goal.returns
 returns c =
     let given = c.requires.0 in
     let end = (goal.at.returns c).After-loop-k in
-    let held = last-held end in
+    let held = last_held end in
     let gaps = rw (c.index_of_u32-f.ensures, held.sized) at c.new_row_gap.ensures.0 in
     weights_all given (omega arith) c.loop-k.invariant.2 (gaps ∙ row_is given _ (last_edge end) held)
 
@@ -198,12 +198,12 @@ bounds-firsts-last c = omega (arith, c.requires.0.count, c.loop-k.invariant.1.fi
 
 pub offset_bounds-sizes-f : goal.offset_bounds-sizes-f
 offset_bounds-sizes-f c =
-    let held = last-held (goal.at.offset_bounds-sizes-f c).After-loop-k in
+    let held = last_held (goal.at.offset_bounds-sizes-f c).After-loop-k in
     omega (arith, c.index_of_u32-f.ensures, held.below, c.requires.0.count)
 
 pub bounds-sizes-f : goal.bounds-sizes-f
 bounds-sizes-f c =
-    let held = last-held (goal.at.bounds-sizes-f c).After-loop-k in
+    let held = last_held (goal.at.bounds-sizes-f c).After-loop-k in
     omega (
       arith,
       c.index_of_u32-f.ensures,

@@ -24,15 +24,15 @@ the_row c =
 
 -- the labels of its two children, and their subtrees
 module _ (c : After-index_of_u32-b) where
-  first-label :
+  first_label :
       let a = c.args in
       c.index_of_u32-a.result ≡ get_or a.firsts.now (get_or a.rows.now (2 * a.k) 0) 0
-  first-label = c.index_of_u32-a.ensures ∙ rw (the_row (goal.at.offset_bounds-sizes-a c).After-row_at-r).first_is
+  first_label = c.index_of_u32-a.ensures ∙ rw (the_row (goal.at.offset_bounds-sizes-a c).After-row_at-r).first_is
 
-  second-label :
+  second_label :
       let a = c.args in
       c.index_of_u32-b.result ≡ get_or a.firsts.now (get_or a.rows.now (2 * a.k + 1) 0) 0
-  second-label = c.index_of_u32-b.ensures ∙ rw (the_row (goal.at.offset_bounds-sizes-a c).After-row_at-r).second_is
+  second_label = c.index_of_u32-b.ensures ∙ rw (the_row (goal.at.offset_bounds-sizes-a c).After-row_at-r).second_is
 
   first_is :
       let a = c.args in
@@ -40,7 +40,7 @@ module _ (c : After-index_of_u32-b) where
       (subtree_at a.n a.rows.now (get_or a.rows.now (2 * a.k) 0))
   first_is =
       let p = c.requires in
-      rw first-label (first_held p.0 p.2 p.1)
+      rw first_label (first_held p.0 p.2 p.1)
 
   second_is :
       let a = c.args in
@@ -48,7 +48,7 @@ module _ (c : After-index_of_u32-b) where
       (subtree_at a.n a.rows.now (get_or a.rows.now (2 * a.k + 1) 0))
   second_is =
       let p = c.requires in
-      rw second-label (second_held p.0 p.2 p.1)
+      rw second_label (second_held p.0 p.2 p.1)
 
   few : c.args.n ≤ most_leaves
   few = c.requires.0.count.1
@@ -61,7 +61,7 @@ module _ (c : After-index_of_u32-b) where
       ≤ a.n
   both_fit =
       let p = c.requires in
-      rw (first-label, second-label) (merge_ready p.0 p.2 p.1).room
+      rw (first_label, second_label) (merge_ready p.0 p.2 p.1).room
 
   -- what is asked of the row of the new leaf at each child's edge
   first_row :
@@ -72,11 +72,11 @@ module _ (c : After-index_of_u32-b) where
       let p = c.requires in
       rw first_is.sized (row_fits p.0 _ (child_edge p.0 _ (omega (arith, p.2))) first_is p.1.small)
 
-  second-row :
+  second_row :
       let a = c.args in
       RowGapFits a.n c.index_of_u32-b.result (get_or a.sizes.now c.index_of_u32-b.result 0) a.m.now
       a.p.now
-  second-row =
+  second_row =
       let p = c.requires in
       rw second_is.sized (row_fits p.0 _ (child_edge p.0 _ (omega (arith, p.2))) second_is p.1.small)
 
@@ -116,7 +116,7 @@ weigh_child-second-requires c =
       own_is_table p.0,
       p.0.is_table,
       omega (arith, both_fit (goal.at.weigh_child-second-requires c).After-index_of_u32-b),
-      second-row (goal.at.weigh_child-second-requires c).After-index_of_u32-b,
+      second_row (goal.at.weigh_child-second-requires c).After-index_of_u32-b,
       between.as_is.1,
       between.larger.1,
     )
@@ -126,8 +126,8 @@ returns c =
     let p = c.requires in
     let own = (first_is (goal.at.returns c).After-index_of_u32-b).sized in
     let other = (second_is (goal.at.returns c).After-index_of_u32-b).sized in
-    let a = first-label (goal.at.returns c).After-index_of_u32-b in
-    let b = second-label (goal.at.returns c).After-index_of_u32-b in
+    let a = first_label (goal.at.returns c).After-index_of_u32-b in
+    let b = second_label (goal.at.returns c).After-index_of_u32-b in
     let classified = rw (a, b) at c.classify-classes.ensures in
     let block = c.block-between.ensures in
     let larger = rw (own, other) at block.larger.0 in

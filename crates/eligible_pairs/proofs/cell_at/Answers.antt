@@ -21,16 +21,16 @@ returns-then-is_packed c =
     (c.cell.ensures ∙ packed_cell_is _ _ packed a.i a.j (omega arith) (omega arith))
 
 -- else the cells are meant
-cells-meant :
+cells_meant :
     (c : Else-is_packed)
     → (let a = c.args in
     lent_table a.n a.table.now a.packed.now ≡ a.table.now)
-cells-meant c = as_cells _ _ _ (sym c.is_packed.ensures ∙ c.if-is_packed.false)
+cells_meant c = as_cells _ _ _ (sym c.is_packed.ensures ∙ c.if-is_packed.false)
 
 many :
     (c : Else-is_packed)
     → (let a = c.args in length a.table.now ≡ a.n * a.n)
-many c = rw (cells-meant c) at c.requires.1
+many c = rw (cells_meant c) at c.requires.1
 
 pub overflow_mul-result : goal.overflow_mul-result
 overflow_mul-result c =
@@ -54,4 +54,4 @@ bounds-table-i c =
 
 pub returns : goal.returns
 unfolding cell
-returns c = rw (cells-meant (goal.at.returns c).Else-is_packed)
+returns c = rw (cells_meant (goal.at.returns c).Else-is_packed)

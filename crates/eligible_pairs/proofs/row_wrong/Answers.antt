@@ -22,18 +22,18 @@ returns-then-is_packed c =
     rw (as_packed a.n a.table.now a.packed.now on) c.packed_wrong.ensures
 
 -- else the cells are meant
-cells-meant :
+cells_meant :
     (c : Else-is_packed)
     → (let a = c.args in
     lent_table a.n a.table.now a.packed.now ≡ a.table.now)
-cells-meant c = as_cells _ _ _ (sym c.is_packed.ensures ∙ c.if-is_packed.false)
+cells_meant c = as_cells _ _ _ (sym c.is_packed.ensures ∙ c.if-is_packed.false)
 
 ends :
     (c : Else-is_packed)
     → (let a = c.args in
     (a.x * a.n + a.n ≤ length a.table.now) × (length a.table.now ≤ most_cells))
 ends c =
-    let cells = rw (cells-meant c) at c.requires.1 in
+    let cells = rw (cells_meant c) at c.requires.1 in
     row_inside c.args.n c.args.x c.args.table.now (omega arith) (omega arith) cells
 
 pub overflow_mul-at : goal.overflow_mul-at
@@ -52,5 +52,5 @@ pub returns : goal.returns
 returns c =
     let a = c.args in
     let t = a.table.now in
-    rw (cells-meant (goal.at.returns c).Else-is_packed)
+    rw (cells_meant (goal.at.returns c).Else-is_packed)
     (c.cells_wrong.ensures ∙ row_counts a.n t _ _ _ a.x _ _ (λ y l. row_is a.n t a.x y l))

@@ -24,28 +24,28 @@ pub slice_bounds-table-end : goal.slice_bounds-table-end
 slice_bounds-table-end c = omega (arith, few (goal.at.slice_bounds-table-end c).Start)
 
 -- the cells lent to the guess are the sheet's table
-the-table :
+the_table :
     (c : After-table_of)
     → (let a = c.args in
     let n = a.figures.leaves in
     take (n * n) c.table_of.new.out ≡ table_with (leaves_of a.sheet.now) (cells_of a.sheet.now))
-the-table c =
+the_table c =
     rw (c.table_of.ensures.buffer, c.requires.0.0) (table_in_front _ _ c.requires.1 _)
 
 pub slice_bounds-guess_tree-end : goal.slice_bounds-guess_tree-end
 slice_bounds-guess_tree-end c =
-    let table = the-table (goal.at.slice_bounds-guess_tree-end c).After-table_of in
+    let table = the_table (goal.at.slice_bounds-guess_tree-end c).After-table_of in
     rw (table, c.requires.0.0) (sym (sheet_is_table _ _).cells)
 
 pub guess_tree-requires : goal.guess_tree-requires
 guess_tree-requires c =
     let count = c.requires.0.0 in (
       rw count (sheet_count _ _ c.requires.1),
-      rw (the-table (goal.at.guess_tree-requires c).After-table_of, count) (sheet_is_table _ _),
+      rw (the_table (goal.at.guess_tree-requires c).After-table_of, count) (sheet_is_table _ _),
       rw count (sheet_room _ _ c.requires.1),
     )
 
 pub returns : goal.returns
 unfolding sheet_guessed
 returns c =
-    rw (the-table (goal.at.returns c).After-table_of, c.requires.0.0) at c.guess_tree.ensures
+    rw (the_table (goal.at.returns c).After-table_of, c.requires.0.0) at c.guess_tree.ensures

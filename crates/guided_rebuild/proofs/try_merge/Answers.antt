@@ -20,24 +20,24 @@ pair_fits-requires c =
     rw (no_bytes c.args.n c.args.table.now) (two_labels c.requires c.requires.standing.stands c.if-a-b.false)
 
 -- the test of the two subtrees, of the table as cells
-meets-told :
+meets_told :
     (c : After-pair_fits)
     → (let a = c.args in
     (c.pair_fits.result ≡ true) ↔ SubtreesFit a.n a.table.now a.label.now a.m.now a.sizes.now a.p.now a.a a.b)
-meets-told c = rw (no_bytes c.args.n c.args.table.now) at c.pair_fits.ensures
+meets_told c = rw (no_bytes c.args.n c.args.table.now) at c.pair_fits.ensures
 
 pub returns-then-not-pair_fits : goal.returns-then-not-pair_fits
 returns-then-not-pair_fits c =
     proposal_refused (λ S s e.
     let meet = labels_fit c.requires s c.if-a-b.false e in
-    never ((meets-told (goal.at.returns-then-not-pair_fits c).After-pair_fits).1 meet) c.if-not-pair_fits.true)
+    never ((meets_told (goal.at.returns-then-not-pair_fits c).After-pair_fits).1 meet) c.if-not-pair_fits.true)
 
 pub merge-requires : goal.merge-requires
 merge-requires c = merges_up c.requires c.requires.standing.stands c.if-a-b.false
 
 pub returns-then-a-b-2 : goal.returns-then-a-b-2
 returns-then-a-b-2 c =
-    let meets = (meets-told (goal.at.returns-then-a-b-2 c).After-pair_fits).0 c.if-not-pair_fits.false in
+    let meets = (meets_told (goal.at.returns-then-a-b-2 c).After-pair_fits).0 c.if-not-pair_fits.false in
     proposal_accepted (λ S s. merged_up c.requires s c.if-a-b.false meets c.if-a-b-2.true c.merge.ensures)
 
 pub merge-requires-2 : goal.merge-requires-2
@@ -45,5 +45,5 @@ merge-requires-2 c = merges_down c.requires c.requires.standing.stands c.if-a-b.
 
 pub returns : goal.returns
 returns c =
-    let meets = (meets-told (goal.at.returns c).After-pair_fits).0 c.if-not-pair_fits.false in
+    let meets = (meets_told (goal.at.returns c).After-pair_fits).0 c.if-not-pair_fits.false in
     proposal_accepted (λ S s. merged_down c.requires s c.if-a-b.false meets (omega arith) c.merge-2.ensures)

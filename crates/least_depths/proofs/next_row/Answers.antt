@@ -9,14 +9,14 @@ use Rattle.least_depths.proofs.next_row.Goals.{Start}
 use Rattle.least_depths.proofs.next_row.Goals as goal
 
 -- the row's leaf
-leaf-small : (s : Start) → at s.args.order.now s.args.p < most_leaves
-leaf-small s = omega (arith, s.requires.0.below s.args.p s.requires.1, s.requires.0.few)
+leaf_small : (s : Start) → at s.args.order.now s.args.p < most_leaves
+leaf_small s = omega (arith, s.requires.0.below s.args.p s.requires.1, s.requires.0.few)
 
 pub offset_bounds-aboves-i : goal.offset_bounds-aboves-i
-offset_bounds-aboves-i c = omega (arith, leaf-small (goal.at.offset_bounds-aboves-i c).Start)
+offset_bounds-aboves-i c = omega (arith, leaf_small (goal.at.offset_bounds-aboves-i c).Start)
 
 pub bounds-aboves-i : goal.bounds-aboves-i
-bounds-aboves-i c = omega (arith, leaf-small (goal.at.bounds-aboves-i c).Start)
+bounds-aboves-i c = omega (arith, leaf_small (goal.at.bounds-aboves-i c).Start)
 
 pub move_right-requires : goal.move_right-requires
 move_right-requires c =
@@ -30,12 +30,12 @@ move_left-requires c =
     (p.0, omega arith, p.1, right.0, λ s a b. rw (right.2 s (omega arith)) ((p.3.last (omega arith)).before s b))
 
 pub offset_bounds-tops-i : goal.offset_bounds-tops-i
-offset_bounds-tops-i c = omega (arith, leaf-small (goal.at.offset_bounds-tops-i c).Start)
+offset_bounds-tops-i c = omega (arith, leaf_small (goal.at.offset_bounds-tops-i c).Start)
 
 pub bounds-tops-i : goal.bounds-tops-i
 bounds-tops-i c =
     let left = c.move_left.ensures in
-    omega (arith, left.0, leaf-small (goal.at.bounds-tops-i c).Start)
+    omega (arith, left.0, leaf_small (goal.at.bounds-tops-i c).Start)
 
 pub returns : goal.returns
 returns c =

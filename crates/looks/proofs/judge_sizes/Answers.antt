@@ -54,9 +54,9 @@ cells c =
     c.if-cells-table_cells.false ∙ c.table_cells.ensures (count (goal.at.overflow_add-n-2 c).Else-not-leaf_count)
 
 -- the new table's leaf count is a tree's
-new-leaf-count :
+new_leaf_count :
     (c : Else-cells-table_cells) → IsLeafCount (c.args.n + 1)
-new-leaf-count c =
+new_leaf_count c =
     let a = c.args in
     leaf_count_of a.kind (a.n + 1) (new_count (goal.at.overflow_add-n-2 c).Else-not-leaf_count_of)
 
@@ -64,7 +64,7 @@ pub returns-then-new_cells-table_cells : goal.returns-then-new_cells-table_cells
 returns-then-new_cells-table_cells c =
     let at = goal.at.returns-then-new_cells-table_cells c in
     let k = count at.Else-not-leaf_count in
-    let larger = new-leaf-count at.Else-cells-table_cells in
+    let larger = new_leaf_count at.Else-cells-table_cells in
     new_cells_told _ _ _ _ _ _ _ k (new_count at.Else-not-leaf_count_of)
     (numbers at.Else-numbers-listing_numbers k) (cells at.Else-cells-table_cells)
     (λ h. c.if-new_cells-table_cells.true (h ∙ sym (c.table_cells-2.ensures larger)))
@@ -79,7 +79,7 @@ pub returns-then-room-due : goal.returns-then-room-due
 returns-then-room-due c =
     let at = goal.at.returns-then-room-due c in
     let k = count at.Else-not-leaf_count in
-    let larger = new-leaf-count at.Else-cells-table_cells in
+    let larger = new_leaf_count at.Else-cells-table_cells in
     room_told _ _ _ _ _ _ _ k (new_count at.Else-not-leaf_count_of)
     (numbers at.Else-numbers-listing_numbers k) (cells at.Else-cells-table_cells)
     (new_cells at.Else-new_cells-table_cells larger) c.if-room-due.true
@@ -88,7 +88,7 @@ pub returns : goal.returns
 returns c =
     let at = goal.at.returns c in
     let k = count at.Else-not-leaf_count in
-    let larger = new-leaf-count at.Else-cells-table_cells in
+    let larger = new_leaf_count at.Else-cells-table_cells in
     sizes_told _ _ _ _ _ _ _ k (new_count at.Else-not-leaf_count_of)
     (numbers at.Else-numbers-listing_numbers k) (cells at.Else-cells-table_cells)
     (new_cells at.Else-new_cells-table_cells larger) (omega (arith, c.if-room-due.false))

@@ -28,12 +28,12 @@ right :
 right c = sizes_right _ _ _ _ (call_passed _ c.judge_sizes-sizes.ensures c.in-Done.is)
 
 -- what `listings::judge` says is what the rules say
-rules-told :
+rules_told :
     (c : After-judge-rules)
     → (let a = c.args in
     RightSizes a.sheet.now a.n a.offset (length a.listing.now)
     → c.judge-rules.result ≡ outcome_of (rules_refusal a.n a.listing.now))
-rules-told c s =
+rules_told c s =
     c.judge-rules.ensures ∙ ap outcome_of (rules_left _ _ 0 0 s.count s.long (omega arith))
 
 pub returns-in_default-rules : goal.returns-in_default-rules
@@ -43,7 +43,7 @@ returns-in_default-rules c =
     let at = goal.at.returns-in_default-rules c in
     let told =
     go_on _ c.judge_sizes-sizes.ensures _ c.in-Done.is
-    (go_stops _ (rules-told at.After-judge-rules (right at.In-Done)) _ refused) in
+    (go_stops _ (rules_told at.After-judge-rules (right at.In-Done)) _ refused) in
     record { answer = told; index = λ e. absurd (call_stopped _ told refused e) }
 
 pub judge_names-requires : goal.judge_names-requires
@@ -59,6 +59,6 @@ returns c =
     record {
       answer =
           go_on _ c.judge_sizes-sizes.ensures _ c.in-Done.is
-          (go_passes _ (rules-told at.After-judge-rules (right at.In-Done)) _ c.in-Done-rules.is learnt.answer);
+          (go_passes _ (rules_told at.After-judge-rules (right at.In-Done)) _ c.in-Done-rules.is learnt.answer);
       index = λ e. learnt.index (names_good _ _ _ c.args.listing.now e);
     }

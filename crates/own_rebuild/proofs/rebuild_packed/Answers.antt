@@ -54,22 +54,22 @@ right :
 right c = packed_right _ _ _ (passed c)
 
 -- the table that the bytes mean is the one that is lent
-packed-meant :
+packed_meant :
     (c : In-Done) (t : List ℕ)
     → let a = c.args in
     lent_table a.n t a.packed.now ≡ table_with a.n (packed_cells a.n a.packed.now)
-packed-meant c t = as_packed _ t _ (packed_passes _ _ ((right c).count, (right c).long))
+packed_meant c t = as_packed _ t _ (packed_passes _ _ ((right c).count, (right c).long))
 
 pub rebuild_checked-requires : goal.rebuild_checked-requires
 rebuild_checked-requires c = (
   (right (goal.at.rebuild_checked-requires c).In-Done).count,
-  rw (packed-meant (goal.at.rebuild_checked-requires c).In-Done []) (sheet_is_table _ _),
+  rw (packed_meant (goal.at.rebuild_checked-requires c).In-Done []) (sheet_is_table _ _),
   (right (goal.at.rebuild_checked-requires c).In-Done).enough,
 )
 
 pub returns : goal.returns
 unfolding packed_answer
 returns c =
-    let told = rw (packed-meant (goal.at.returns c).In-Done []) at c.rebuild_checked.ensures in
+    let told = rw (packed_meant (goal.at.returns c).In-Done []) at c.rebuild_checked.ensures in
     let t = unless_none _ _ _ _ _ (passed (goal.at.returns c).In-Done) (told.answer, told.buffer) in
     record { answer = t.0; buffer = t.1 }

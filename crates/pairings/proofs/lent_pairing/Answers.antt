@@ -19,14 +19,14 @@ returns-in-Refused c =
     ∙ c.in-Refused.is)))
 
 -- neither the leaf count nor the number of numbers is refused
-sizes-fine :
+sizes_fine :
     (c : In_default)
     → (let a = c.args in
     input_refusal Counts a.n 4 (length a.question.now) ≡ none)
-sizes-fine c = call_passed _ c.judge_input-sizes.ensures c.in_default.is
+sizes_fine c = call_passed _ c.judge_input-sizes.ensures c.in_default.is
 
 four : (c : In_default) → length c.args.question.now ≡ 4
-four c = (input_right _ _ _ _ (sizes-fine c)).1
+four c = (input_right _ _ _ _ (sizes_fine c)).1
 
 pub returns : goal.returns
 returns c =
@@ -34,7 +34,7 @@ returns c =
     let lent = sym (is_four a.question.now (four (goal.at.returns c).In_default)) in
     c.pairing.ensures
     ∙ ap (λ q. as_paired (pairing_answer a.n a.listing.now q)) lent
-    ∙ ap as_paired (sym (lent_asked _ _ _ (sizes-fine (goal.at.returns c).In_default)))
+    ∙ ap as_paired (sym (lent_asked _ _ _ (sizes_fine (goal.at.returns c).In_default)))
 
 pub bounds-question-0 : goal.bounds-question-0
 bounds-question-0 c = omega (arith, four (goal.at.bounds-question-0 c).In_default)

@@ -16,31 +16,31 @@ returns-in-Refused c =
     ∙ c.in-Refused.is)))
 
 -- the listing is not refused
-listing-fine :
+listing_fine :
     (c : In_default)
     → (let a = c.args in listing_refusal a.n a.listing.now 0 0 ≡ none)
-listing-fine c = call_passed _ c.judge-judged.ensures c.in_default.is
+listing_fine c = call_passed _ c.judge-judged.ensures c.in_default.is
 
 pub returns-in-Refused-asked : goal.returns-in-Refused-asked
 returns-in-Refused-asked c =
     let arises =
     refused_some _ _ (sym c.judge_question-asked.ensures ∙ c.in-Refused-asked.is) in
-    sym (question_refused _ _ _ _ (listing-fine (goal.at.returns-in-Refused-asked c).In_default) arises)
+    sym (question_refused _ _ _ _ (listing_fine (goal.at.returns-in-Refused-asked c).In_default) arises)
 
 -- nor is the question
-question-fine :
+question_fine :
     (c : In_default-asked)
     → (let a = c.args in
     question_refusal a.n a.question ≡ none)
-question-fine c = call_passed _ c.judge_question-asked.ensures c.in_default-asked.is
+question_fine c = call_passed _ c.judge_question-asked.ensures c.in_default-asked.is
 
 pub pairing_of-requires : goal.pairing_of-requires
 pairing_of-requires c =
-    let a = accepted_listing _ _ _ _ (listing-fine (goal.at.pairing_of-requires c).In_default) in
-    (a.count, a.keeps, question-fine c)
+    let a = accepted_listing _ _ _ _ (listing_fine (goal.at.pairing_of-requires c).In_default) in
+    (a.count, a.keeps, question_fine c)
 
 pub returns : goal.returns
 returns c =
-    let fine = question-fine (goal.at.returns c).In_default-asked in
+    let fine = question_fine (goal.at.returns c).In_default-asked in
     ap As c.pairing_of.ensures ∙ sym (question_answered _ _ _
-    (listing-fine (goal.at.returns c).In_default) fine)
+    (listing_fine (goal.at.returns c).In_default) fine)

@@ -10,10 +10,10 @@ use Rattle.standard_listings.proofs.order_rows.Goals.{In-loop-v}
 use Rattle.standard_listings.proofs.order_rows.Goals as goal
 
 -- the node of this turn
-at-node :
+at_node :
     (c : In-loop-v)
     → (AtNode c.args.n c.args.listing.now c.loop-v.v)
-at-node c = record {
+at_node c = record {
   count = c.requires.0;
   keeps = c.requires.1;
   low = omega arith;
@@ -24,11 +24,11 @@ pub loop-v-init : goal.loop-v-init
 loop-v-init c = (omega arith, omega arith, leasts_none _ _ _ c.requires.2, order_none _ _ _ c.requires.3)
 
 pub in_order-c-requires : goal.in_order-c-requires
-in_order-c-requires c = (at-node c, c.loop-v.invariant.2)
+in_order-c-requires c = (at_node c, c.loop-v.invariant.2)
 
 pub least_of-requires : goal.least_of-requires
 least_of-requires c =
-    let w = at-node (goal.at.least_of-requires c).In-loop-v in
+    let w = at_node (goal.at.least_of-requires c).In-loop-v in
     (w.count, omega (arith, c.in_order-c.ensures.first, first_below w, w))
 
 pub bounds-leasts-v : goal.bounds-leasts-v
@@ -36,24 +36,24 @@ bounds-leasts-v c =
     omega (
       arith,
       c.loop-v.invariant.2.long,
-      at-node (goal.at.bounds-leasts-v c).In-loop-v,
+      at_node (goal.at.bounds-leasts-v c).In-loop-v,
     )
 
 pub overflow_cast-sorted : goal.overflow_cast-sorted
 overflow_cast-sorted c =
-    omega (arith, c.in_order-c.ensures.first, first_below (at-node (goal.at.overflow_cast-sorted c).In-loop-v))
+    omega (arith, c.in_order-c.ensures.first, first_below (at_node (goal.at.overflow_cast-sorted c).In-loop-v))
 
 pub bounds-sorted-k : goal.bounds-sorted-k
 bounds-sorted-k c =
     omega (
       arith,
       c.loop-v.invariant.3.long,
-      at-node (goal.at.bounds-sorted-k c).In-loop-v,
+      at_node (goal.at.bounds-sorted-k c).In-loop-v,
     )
 
 pub overflow_cast-sorted-in-loop-v : goal.overflow_cast-sorted-in-loop-v
 overflow_cast-sorted-in-loop-v c =
-    let w = at-node (goal.at.overflow_cast-sorted-in-loop-v c).In-loop-v in
+    let w = at_node (goal.at.overflow_cast-sorted-in-loop-v c).In-loop-v in
     omega (arith, c.in_order-c.ensures.second, second_below w)
 
 pub bounds-sorted-k-in-loop-v : goal.bounds-sorted-k-in-loop-v
@@ -61,12 +61,12 @@ bounds-sorted-k-in-loop-v c =
     omega (
       arith,
       c.loop-v.invariant.3.long,
-      at-node (goal.at.bounds-sorted-k-in-loop-v c).In-loop-v,
+      at_node (goal.at.bounds-sorted-k-in-loop-v c).In-loop-v,
     )
 
 pub loop-v-preserved : goal.loop-v-preserved
 loop-v-preserved c =
-    let w = at-node (goal.at.loop-v-preserved c).In-loop-v in
+    let w = at_node (goal.at.loop-v-preserved c).In-loop-v in
     let inv = c.loop-v.invariant in
     let made = c.in_order-c.ensures in
     let least_first = inv.2.is _ (first_below w) ∙ sym (least_node w) in (

@@ -23,14 +23,14 @@ overflow_add-result-2 c =
       c.agrees.ensures.0,
     )
 
-four-ones :
+four_ones :
     {a b c d : ℕ} → a ≤ 1 → b ≤ 1 → c ≤ 1 → d ≤ 1
     → (a + b + c + d ≤ 4) × (a + b + c + d ≡ 4 → (a ≡ 1) × (b ≡ 1) × (c ≡ 1) × (d ≡ 1))
-four-ones la lb lc ld = (omega arith, λ e. (omega arith, omega arith, omega arith, omega arith))
+four_ones la lb lc ld = (omega arith, λ e. (omega arith, omega arith, omega arith, omega arith))
 
 pub returns : goal.returns
 returns c =
-    let ones = four-ones c.agrees.ensures.0 c.agrees-2.ensures.0 c.agrees-3.ensures.0
+    let ones = four_ones c.agrees.ensures.0 c.agrees-2.ensures.0 c.agrees-3.ensures.0
     c.agrees-4.ensures.0 in (
       ones.0,
       λ h.

@@ -9,28 +9,28 @@ use Rattle.packed_tables.proofs.reading.row_of.Goals.{After-write_below, After-w
 use Rattle.packed_tables.proofs.reading.row_of.Goals as goal
 
 -- the buffer is as long as before, after the cells below the diagonal and after the one on it
-below-long :
+below_long :
     (c : After-write_below)
     → length c.write_below.new.out ≡ length c.args.out.now
-below-long c =
+below_long c =
     ap length c.write_below.ensures
     ∙ length_filled _ _ c.args.i (omega arith)
 
 pub write_on-requires : goal.write_on-requires
-write_on-requires c = omega (arith, below-long (goal.at.write_on-requires c).After-write_below)
+write_on-requires c = omega (arith, below_long (goal.at.write_on-requires c).After-write_below)
 
-on-long :
+on_long :
     (c : After-write_on)
     → length c.write_on.new.out
     ≡ length c.args.out.now
-on-long c =
+on_long c =
     ap length c.write_on.ensures
     ∙ simp length-set (ap length c.write_below.ensures
     ∙ length_filled _ _ c.args.i (omega arith))
 
 pub write_above-requires : goal.write_above-requires
 write_above-requires c =
-    (c.requires.0, c.requires.1, omega (arith, on-long (goal.at.write_above-requires c).After-write_on))
+    (c.requires.0, c.requires.1, omega (arith, on_long (goal.at.write_above-requires c).After-write_on))
 
 pub returns : goal.returns
 returns c =

@@ -22,11 +22,11 @@ pub loop-i-init : goal.loop-i-init
 loop-i-init c = (omega arith, λ j h. absurd (omega arith))
 
 -- the sets are the same exactly when all their words are
-by-words :
+by_words :
     (s : Start)
     → same_set (set_of_words s.args.a) (set_of_words s.args.b)
     ≡ all_below set_words (λ i. eqb (get_or s.args.a i 0) (get_or s.args.b i 0))
-by-words s =
+by_words s =
     let first = array_cells w64 set_words s.args.a _ s.well_formed.0 tt in
     let second = array_cells w64 set_words s.args.b _ s.well_formed.1.0 tt in
     same_by_cells 64 set_words refl s.args.a s.args.b first second
@@ -34,7 +34,7 @@ by-words s =
 pub returns-then-a-i : goal.returns-then-a-i
 returns-then-a-i c =
     let l = c.loop-i in
-    sym (by-words (goal.at.returns-then-a-i c).Start
+    sym (by_words (goal.at.returns-then-a-i c).Start
     ∙ is_false _ (λ h. c.if-a-i.true (eqb-true _ _ (all_true set_words _ h l.i (omega arith)))))
 
 pub loop-i-preserved : goal.loop-i-preserved
@@ -43,4 +43,4 @@ loop-i-preserved c = (omega arith, below_more _ _ c.loop-i.invariant.1 c.if-a-i.
 pub returns : goal.returns
 returns c =
     let l = c.loop-i in
-    sym (by-words (goal.at.returns c).Start ∙ true_all set_words _ (λ i h. eq-eqb _ _ (l.invariant.1 i (omega arith))))
+    sym (by_words (goal.at.returns c).Start ∙ true_all set_words _ (λ i h. eq-eqb _ _ (l.invariant.1 i (omega arith))))
