@@ -46,7 +46,8 @@
 
 /* From 0.9 to 0.10: quartree_version is new, and so are QUARTREE_VERSION_NUMBER and the macros QUARTREE_GUESS_TOTAL,
    QUARTREE_GUESS_ORIGIN, QUARTREE_NAME_OFFSET and QUARTREE_NAME_LENGTH. A compiler that knows how warns where a reply
-   is not used or a null pointer is lent. Every call answers as before. CHANGELOG.md of the sources has the earlier versions. */
+   is not used or a null pointer is lent. Every call answers as before. CHANGELOG.md of the sources has the earlier
+   versions. */
 
 /* ---- Words ----------------------------------------------------------------------------------------------------------
 
