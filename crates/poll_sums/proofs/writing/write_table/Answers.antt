@@ -9,7 +9,7 @@ use Rattle.base.proofs.Filling.{filled_none, filled_more, length_filled}
 use Rattle.poll_sums.specs.inner.Sums.{mirrored_sum}
 use native.Mathlib.Omega.{arith}
 use Rattle.poll_sums.proofs.Sums.{cells_fit, row_fits}
-use Rattle.poll_sums.proofs.writing.write_table.Invariants.{table-cell}
+use Rattle.poll_sums.proofs.writing.write_table.Invariants.{table_cell}
 use Rattle.poll_sums.proofs.writing.write_table.Goals.{In-loop-k}
 use Rattle.poll_sums.proofs.writing.write_table.Goals as goal
 
@@ -27,7 +27,7 @@ overflow_mul-m c = omega (arith, cells_fit c.args.n c.requires.0.1)
 pub loop-k-init : goal.loop-k-init
 loop-k-init c =
     let a = c.args in
-    let none = sym (filled_none (table-cell a.n a.sums.now) _) in
+    let none = sym (filled_none (table_cell a.n a.sums.now) _) in
     (omega arith, omega (arith, c.requires.0.0), omega arith, none)
 
 pub sum_at-requires : goal.sum_at-requires
@@ -38,7 +38,7 @@ sum_at-requires c =
 pub bounds-out-k : goal.bounds-out-k
 bounds-out-k c =
     let l = c.loop-k in
-    let same = length_filled (table-cell c.args.n c.args.sums.now) c.args.out.now l.k
+    let same = length_filled (table_cell c.args.n c.args.sums.now) c.args.out.now l.k
     (omega (arith, c.requires.1, l.invariant.0)) in
     omega (arith, ap length l.invariant.3, same, c.requires.1)
 
@@ -54,7 +54,7 @@ loop-k-preserved c =
       omega arith,
       e.0,
       e.1 ∙ rw l.invariant.2,
-      filled_more (table-cell a.n a.sums.now) a.out.now l.invariant.3 (omega (arith, c.requires.1))
+      filled_more (table_cell a.n a.sums.now) a.out.now l.invariant.3 (omega (arith, c.requires.1))
           (c.sum_at.ensures ∙ this a.n a.sums.now l.k l.at.row l.at.column l.invariant.1
           l.invariant.2),
     )
@@ -68,7 +68,7 @@ pub shape_of-out : goal.shape_of-out
 shape_of-out c =
     let l = c.loop-k in
     ap length l.invariant.3
-    ∙ length_filled (table-cell c.args.n c.args.sums.now) c.args.out.now l.k
+    ∙ length_filled (table_cell c.args.n c.args.sums.now) c.args.out.now l.k
     (omega (arith, c.requires.1, l.invariant.0))
 
 pub returns : goal.returns
