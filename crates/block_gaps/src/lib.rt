@@ -11,6 +11,17 @@ ghost use Rattle.block_gaps.specs.inner.Blocks.{TablesFit, of_class, RowAdded, R
 use limits::MOST_LEAVES;
 use numbers::apart;
 
+// A table of n leaves and a new one of n + 1, and the scale of the new one. It is passed by value: behind a reference
+// the loops over a block take up to a tenth longer.
+#[derive(Clone, Copy)]
+pub struct Tables<'a> {
+    pub n: usize,
+    pub scale: u32,
+    pub table: &'a [u32],
+    pub new: &'a [u32],
+    pub ghost fit: { TablesFit n scale table.now new.now },
+}
+
 // The gaps with the cells of the tree's own table as they are, and with each of them so many larger.
 #[derive(Clone, Copy)]
 pub struct Sums {
@@ -22,40 +33,26 @@ pub struct Sums {
 fn where_equal(x: u32, y: u32, gap: u32) -> u32
     ensures { (result ≡ indicator (eqb x y) gap) × (result ≤ gap) }
 {
-    if x == y {
-        return gap;
-    }
-    0
+    if x == y { gap } else { 0 }
 }
 
 // The gaps of row i in the columns of class y.
-fn add_row(
-    n: usize,
-    i: usize,
-    y: u32,
-    scale: u32,
-    more: u32,
-    classes: &[u32; MOST_LEAVES],
-    table: &[u32],
-    new: &[u32],
-) -> Sums
-    requires { TablesFit n scale table.now new.now × (i < n) × (more ≤ most_leaves) }
-    ensures { RowAdded n i scale 0 classes.now table.now new.now y n
-        result.as_is
-        × RowAdded n i scale more classes.now table.now new.now y n result.larger }
+fn add_row(t: Tables, i: usize, y: u32, scale: u32, more: u32, classes: &[u32; MOST_LEAVES]) -> Sums
+    requires { (i < t.n) × (scale ≡ t.scale) × (more ≤ most_leaves) }
+    ensures { RowAdded t.entry.n i scale 0 classes.now t.entry.table.now t.entry.new.now y t.entry.n result.as_is
+        × RowAdded t.entry.n i scale more classes.now t.entry.table.now t.entry.new.now y t.entry.n result.larger }
 {
+    let n = t.n;
     let old_row = i * n;
     let new_row = i * (n + 1);
     let mut as_is: u64 = 0;
     let mut larger: u64 = 0;
-    let mut j: usize = 0;
-    while j < n {
+    for j in 0..n {
         let class = classes[j];
-        let cell = new[new_row + j];
-        let count = table[old_row + j];
-        as_is += where_equal(class, y, apart(cell, scale * count)) as u64;
-        larger += where_equal(class, y, apart(cell, scale * (count + more))) as u64;
-        j += 1;
+        let cell = t.new[new_row + j];
+        let count = t.table[old_row + j];
+        as_is += u64::from(where_equal(class, y, apart(cell, scale * count)));
+        larger += u64::from(where_equal(class, y, apart(cell, scale * (count + more))));
     }
     Sums { as_is, larger }
 }
@@ -63,20 +60,16 @@ fn add_row(
 // The same where row i is of class x, else nothing. With counts the scale is known to be 1 here, and the loop has no
 // product to take.
 fn add_row_of_class(
-    n: usize,
+    t: Tables,
     i: usize,
     x: u32,
     y: u32,
-    scale: u32,
     more: u32,
     classes: &[u32; MOST_LEAVES],
-    table: &[u32],
-    new: &[u32],
 ) -> Sums
-    requires { TablesFit n scale table.now new.now × (i < n) × (more ≤ most_leaves) }
-    ensures { RowOfClass n i scale 0 classes.now table.now new.now x y
-        result.as_is × RowOfClass n i scale more classes.now table.now new.now x y
-        result.larger }
+    requires { (i < t.n) × (more ≤ most_leaves) }
+    ensures { RowOfClass t.entry.n i t.entry.scale 0 classes.now t.entry.table.now t.entry.new.now x y result.as_is
+        × RowOfClass t.entry.n i t.entry.scale more classes.now t.entry.table.now t.entry.new.now x y result.larger }
 {
     if classes[i] != x {
         return Sums {
@@ -84,37 +77,26 @@ fn add_row_of_class(
             larger: 0,
         };
     }
-    if scale == 1 {
-        return add_row(n, i, y, 1, more, classes, table, new);
+    if t.scale == 1 {
+        return add_row(t, i, y, 1, more, classes);
     }
-    add_row(n, i, y, scale, more, classes, table, new)
+    add_row(t, i, y, t.scale, more, classes)
 }
 
 // The gaps of the rows of class x in the columns of class y. For the crates above.
-pub fn add_block(
-    n: usize,
-    x: u32,
-    y: u32,
-    scale: u32,
-    more: u32,
-    classes: &[u32; MOST_LEAVES],
-    table: &[u32],
-    new: &[u32],
-) -> Sums
-    requires { TablesFit n scale table.now new.now × (more ≤ most_leaves) }
-    ensures as_is { (result.as_is ≡ block_gap n scale 0 table.now new.now
+pub fn add_block(t: Tables, x: u32, y: u32, more: u32, classes: &[u32; MOST_LEAVES]) -> Sums
+    requires { more ≤ most_leaves }
+    ensures as_is { (result.as_is ≡ block_gap t.entry.n t.entry.scale 0 t.entry.table.now t.entry.new.now
         (of_class classes.now x) (of_class classes.now y)) × (result.as_is ≤ most_gaps) }
-    ensures larger { (result.larger ≡ block_gap n scale more table.now new.now
+    ensures larger { (result.larger ≡ block_gap t.entry.n t.entry.scale more t.entry.table.now t.entry.new.now
         (of_class classes.now x) (of_class classes.now y)) × (result.larger ≤ most_gaps) }
 {
     let mut as_is: u64 = 0;
     let mut larger: u64 = 0;
-    let mut i: usize = 0;
-    while i < n {
-        let row = add_row_of_class(n, i, x, y, scale, more, classes, table, new);
+    for i in 0..t.n {
+        let row = add_row_of_class(t, i, x, y, more, classes);
         as_is += row.as_is;
         larger += row.larger;
-        i += 1;
     }
     Sums { as_is, larger }
 }

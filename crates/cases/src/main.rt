@@ -6,7 +6,6 @@ ghost use Rattle.limits.specs.Limits.{most_numbers};
 
 use case_lines::{say, say_listing, say_tree};
 use limits::Kind;
-use refusals::Outcome;
 use std::io;
 use tree_records::Origin;
 
@@ -26,8 +25,11 @@ fn say_gaps(rt: &impl Print, gaps: &[i64; 25]) -> io::Result<()> {
 fn gap_of_zeros(rt: &impl Print) -> io::Result<()> {
     let listing: [u16; 6] = [3, 4, 2, 5, 1, 6];
     let mut gaps = [0i64; 25];
-    let answer: Outcome = gaps::gap(Kind::Counts, 5, &[0u32; 25], &listing, &mut gaps);
-    say(rt, b"gap of the zero table against 3 4 2 5 1 6: ", answer)?;
+    say(
+        rt,
+        b"gap of the zero table against 3 4 2 5 1 6: ",
+        gaps::gap(Kind::Counts, 5, &[0u32; 25], &listing, &mut gaps),
+    )?;
     say_gaps(rt, &gaps)
 }
 
@@ -43,12 +45,10 @@ fn comb() -> [u16; limits::MOST_NUMBERS]
     let mut listing = [0u16; limits::MOST_NUMBERS];
     listing[0] = 1;
     listing[1] = 2;
-    let mut k: u16 = 1;
-    while k < ROWS {
-        let at = 2 * (k as usize);
+    for k in 1..ROWS {
+        let at = 2 * usize::from(k);
         listing[at] = k + 2;
         listing[at + 1] = k + LAST_LEAF;
-        k += 1;
     }
     listing
 }

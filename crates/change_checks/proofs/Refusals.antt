@@ -1,4 +1,5 @@
 -- What is judged before a tree is changed, one go after the other.
+use Rattle.std.specs.Prelude.{Ok, Err}
 use mathlib.Core.Path.{◌≡◌, ap, sym, ◌∙◌}
 use mathlib.Core.Logic.{◌≢◌}
 use mathlib.Core.Bool.{Bool, true, false, ◌&&◌}
@@ -12,12 +13,10 @@ use Rattle.limits.specs.declared.Kind.TheVariants.{Counts}
 use Rattle.limits.specs.Limits.{IsLeafCount}
 use Rattle.refusals.specs.declared.Refusal.{Refusal}
 use Rattle.refusals.specs.declared.Refusal.TheVariants.{LeafCount as Count, InputLength, OutputRoom, NotOwn}
-use Rattle.refusals.specs.declared.Outcome.{Outcome}
-use Rattle.refusals.specs.declared.Outcome.TheVariants.{Done, Refused}
-use Rattle.refusals.specs.Refusals.{refuse, judged, outcome_of}
+use Rattle.refusals.specs.Refusals.{Outcome, refuse, judged, outcome_of}
 use Rattle.refusals.proofs.Answers.{refuse_passed, refuse_failed, judged_stops, judged_passes, judged_alone}
 use Rattle.refusals.proofs.Answers.{judged_nest, judged_none}
-use Rattle.refusals.proofs.Answers.{go_stops, go_passes}
+use Rattle.refusals.proofs.Answers.{HandsOn, go_stops, go_passes}
 use Rattle.checks.specs.Sizes.{right_count, count_refusal, length_refusal, room_refusal}
 use Rattle.checks.proofs.Sizes.{count_stops, count_passes, count_right, length_stops, length_passes, length_right}
 use Rattle.checks.proofs.Sizes.{room_stops, room_passes, room_right}
@@ -38,12 +37,12 @@ module _ (n m numbers cells room space : ℕ) where
   abbrev sizes : Option Refusal
   sizes = change_sizes_refusal n m numbers cells room space
 
-  pub count_told : right_count Counts m ≡ false → Refused Count ≡ outcome_of sizes
+  pub count_told : right_count Counts m ≡ false → Err Count ≡ outcome_of sizes
   unfolding change_sizes_refusal outcome_of
   count_told h = ap outcome_of (sym (judged_stops _ (count_stops Counts m h)))
 
   module _ (c : IsLeafCount m) where
-    pub numbers_told : numbers ≢ 2 * (n - 2) → Refused InputLength ≡ outcome_of sizes
+    pub numbers_told : numbers ≢ 2 * (n - 2) → Err InputLength ≡ outcome_of sizes
     unfolding change_sizes_refusal outcome_of
     numbers_told h =
         ap outcome_of (sym (judged_passes _ (count_passes Counts m c) ∙ judged_stops _ (length_stops _ _ h)))
@@ -55,12 +54,12 @@ module _ (n m numbers cells room space : ℕ) where
       unfolding change_sizes_refusal
       cells_next = judged_passes _ (count_passes Counts m c) ∙ judged_passes _ (length_passes _ _ e)
 
-      pub cells_told : cells ≢ n * n → Refused InputLength ≡ outcome_of sizes
+      pub cells_told : cells ≢ n * n → Err InputLength ≡ outcome_of sizes
       unfolding outcome_of
       cells_told h = ap outcome_of (sym (cells_next ∙ judged_stops _ (length_stops _ _ h)))
 
       module _ (f : cells ≡ n * n) where
-        pub room_told : room < 2 * (m - 2) → Refused OutputRoom ≡ outcome_of sizes
+        pub room_told : room < 2 * (m - 2) → Err OutputRoom ≡ outcome_of sizes
         unfolding outcome_of
         room_told h =
             ap outcome_of (sym (cells_next ∙ judged_passes _ (length_passes _ _ f) ∙ judged_stops _ (room_stops _ _ h)))
@@ -70,11 +69,11 @@ module _ (n m numbers cells room space : ℕ) where
           space_next =
               cells_next ∙ judged_passes _ (length_passes _ _ f) ∙ judged_passes _ (room_passes _ _ g) ∙ judged_alone _
 
-          pub space_told : space < m * m → Refused OutputRoom ≡ outcome_of sizes
+          pub space_told : space < m * m → Err OutputRoom ≡ outcome_of sizes
           unfolding outcome_of
           space_told h = ap outcome_of (sym (space_next ∙ room_stops _ _ h))
 
-          pub sizes_told : m * m ≤ space → Done ≡ outcome_of sizes
+          pub sizes_told : m * m ≤ space → Ok tt ≡ outcome_of sizes
           unfolding outcome_of
           sizes_told h = ap outcome_of (sym (space_next ∙ room_passes _ _ h))
 
@@ -110,7 +109,7 @@ module _ (there : Bool) (n : ℕ) (t : List ℕ) (T : Tree) (k : IsLeafCount n) 
   abbrev cells : Option Refusal
   cells = cells_or_own_refusal there n t T
 
-  pub fit_told : fit ≡ true → Done ≡ outcome_of cells
+  pub fit_told : fit ≡ true → Ok tt ≡ outcome_of cells
   unfolding cells_or_own_refusal outcome_of
   fit_told h =
       let own = (own_exactly n t T long).0 (and_both there (is_own_table n t T) h).1 in
@@ -122,11 +121,11 @@ module _ (there : Bool) (n : ℕ) (t : List ℕ) (T : Tree) (k : IsLeafCount n) 
   tabled = cells_left Counts n t 0 0 k long (omega arith)
 
   module _ {q : Outcome} (told : q ≡ outcome_of (table_refusal Counts n t 0 0)) where
-    pub cells_stop : {r : Refusal} → q ≡ Refused r → q ≡ outcome_of cells
+    pub cells_stop : {r : Outcome} {e : Refusal} → q ≡ Err e → HandsOn r e → r ≡ outcome_of cells
     unfolding cells_or_own_refusal
-    cells_stop h = go_stops (cells_refusal n t) (told ∙ ap outcome_of tabled) _ h
+    cells_stop h p = go_stops (cells_refusal n t) (told ∙ ap outcome_of tabled) _ h p
 
-    pub unfit_told : fit ≡ false → q ≡ Done → Refused NotOwn ≡ outcome_of cells
+    pub unfit_told : fit ≡ false → q ≡ Ok tt → Err NotOwn ≡ outcome_of cells
     unfolding cells_or_own_refusal outcome_of
     unfit_told f h =
         go_passes (cells_refusal n t) (told ∙ ap outcome_of tabled) (refuse fit NotOwn) h
@@ -146,7 +145,7 @@ module _ (n : ℕ) (l t : List ℕ) (c : Change) (room space : ℕ) where
   abbrev sized : Option Refusal
   sized = change_sizes_refusal n (count_after n c) (length l) (length t) room space
 
-  pub first_count_told : right_count Counts n ≡ false → Refused Count ≡ outcome_of whole
+  pub first_count_told : right_count Counts n ≡ false → Err Count ≡ outcome_of whole
   unfolding change_refusal outcome_of
   first_count_told h = ap outcome_of (sym (judged_stops _ (count_stops Counts n h)))
 
@@ -161,8 +160,9 @@ module _ (n : ℕ) (l t : List ℕ) (c : Change) (room space : ℕ) where
         ∷ room_refusal (2 * (m - 2)) room ∷ room_refusal (m * m) space ∷ [])
         (rules_refusal n l ∷ cells_refusal n t ∷ own ∷ [])
 
-    pub sizes_stop : {q : Outcome} {r : Refusal} → q ≡ outcome_of sized → q ≡ Refused r → q ≡ outcome_of whole
-    sizes_stop told h = go_stops sized told _ h ∙ ap outcome_of (sym sizes_next)
+    pub sizes_stop :
+        {q r : Outcome} {e : Refusal} → q ≡ outcome_of sized → q ≡ Err e → HandsOn r e → r ≡ outcome_of whole
+    sizes_stop told h p = go_stops sized told _ h p ∙ ap outcome_of (sym sizes_next)
 
     module _ (s : sized ≡ none) where
       right : RightSizes n (count_after n c) (length l) (length t) room space
@@ -176,10 +176,10 @@ module _ (n : ℕ) (l t : List ℕ) (c : Change) (room space : ℕ) where
       listed = rules_left n l 0 0 k right.long (omega arith)
 
       pub rules_stop :
-          {q : Outcome} {r : Refusal} → q ≡ outcome_of (listing_refusal n l 0 0) → q ≡ Refused r
-          → q ≡ outcome_of whole
-      rules_stop told h =
-          go_stops (rules_refusal n l) (told ∙ ap outcome_of listed) _ h ∙ ap outcome_of (sym rules_next)
+          {q r : Outcome} {e : Refusal} → q ≡ outcome_of (listing_refusal n l 0 0) → q ≡ Err e → HandsOn r e
+          → r ≡ outcome_of whole
+      rules_stop told h p =
+          go_stops (rules_refusal n l) (told ∙ ap outcome_of listed) _ h p ∙ ap outcome_of (sym rules_next)
 
       module _ (g : listing_refusal n l 0 0 ≡ none) where
         pub keeps : KeepsRules n l

@@ -2,11 +2,10 @@
 // own.
 #![tactic(auto)]
 
-ghost use Rattle.std.specs.Prelude.{◌≡◌, ◌&&◌, ◌*◌, length};
+ghost use Rattle.std.specs.Prelude.{◌≡◌, ◌*◌, length};
 ghost use Rattle.limits.specs.Limits.{IsLeafCount};
 ghost use Rattle.refusals.specs.Refusals.{outcome_of};
 ghost use Rattle.trees.specs.Listings.{KeepsRules, tree_of};
-ghost use Rattle.trees.specs.Tables.{is_own_table};
 ghost use Rattle.grafted_trees.specs.Grafts.{names_edge};
 ghost use Rattle.change_answers.specs.Operations.{count_after, is_there, change_refusal};
 ghost use Rattle.change_checks.specs.inner.Refusals.{change_sizes_refusal, cells_or_own_refusal};
@@ -14,7 +13,7 @@ ghost use Rattle.change_checks.specs.inner.Refusals.{change_sizes_refusal, cells
 use change_answers::Change;
 use limits::Kind;
 use own_tables::is_own_table;
-use refusals::{Outcome, Refusal};
+use refusals::Refusal;
 
 // How many leaves the tree has afterwards. For the crates above.
 pub fn count_after(n: usize, change: Change) -> usize
@@ -54,54 +53,34 @@ fn judge_sizes(
     cells: usize,
     room: usize,
     space: usize,
-) -> Outcome
+) -> Result<(), Refusal>
     requires { IsLeafCount n }
     ensures { result ≡ outcome_of (change_sizes_refusal n m numbers cells room space) }
 {
     if !checks::leaf_count(m) {
-        return Outcome::Refused(Refusal::LeafCount);
+        return Err(Refusal::LeafCount);
     }
-    if numbers != checks::listing_numbers(n) {
-        return Outcome::Refused(Refusal::InputLength);
+    if numbers != checks::listing_numbers(n) || cells != checks::table_cells(n) {
+        return Err(Refusal::InputLength);
     }
-    if cells != checks::table_cells(n) {
-        return Outcome::Refused(Refusal::InputLength);
+    if room < checks::listing_numbers(m) || space < checks::table_cells(m) {
+        return Err(Refusal::OutputRoom);
     }
-    if room < checks::listing_numbers(m) {
-        return Outcome::Refused(Refusal::OutputRoom);
-    }
-    if space < checks::table_cells(m) {
-        return Outcome::Refused(Refusal::OutputRoom);
-    }
-    Outcome::Done
-}
-
-// Whether what is named is there, and the table is the tree's own.
-fn fits(there: bool, n: usize, listing: &[u16], table: &[u32]) -> bool
-    requires { IsLeafCount n × KeepsRules n listing.now × (length table.now ≡ n * n) }
-    ensures { result ≡ (there && is_own_table n table.now (tree_of n listing.now)) }
-{
-    if !there {
-        return false;
-    }
-    is_own_table(n, listing, table)
+    Ok(())
 }
 
 // What is judged of a table, and of what is named: 4, 5, 20. A tree's own table is never refused by 4 or 5, so only
 // another is judged for them.
-fn judge_cells(there: bool, n: usize, listing: &[u16], table: &[u32]) -> Outcome
+fn judge_cells(there: bool, n: usize, listing: &[u16], table: &[u32]) -> Result<(), Refusal>
     requires { IsLeafCount n × KeepsRules n listing.now × (length table.now ≡ n * n) }
     ensures { result ≡ outcome_of (cells_or_own_refusal there n table.now
         (tree_of n listing.now)) }
 {
-    if fits(there, n, listing, table) {
-        return Outcome::Done;
+    if there && is_own_table(n, listing, table) {
+        return Ok(());
     }
-    let cells = table_checks::judge(Kind::Counts, n, table, 0, 0);
-    let Outcome::Done = cells else {
-        return cells;
-    };
-    Outcome::Refused(Refusal::NotOwn)
+    table_checks::judge(Kind::Counts, n, table, 0, 0)?;
+    Err(Refusal::NotOwn)
 }
 
 // All that is judged before a tree is changed: 1, 2, 3, 7, 8, 4, 5, 20.
@@ -112,21 +91,15 @@ pub fn judge(
     table: &[u32],
     room: usize,
     space: usize,
-) -> Outcome
+) -> Result<(), Refusal>
     ensures { result
         ≡ outcome_of (change_refusal n listing.now table.now change room space) }
 {
     if !checks::leaf_count(n) {
-        return Outcome::Refused(Refusal::LeafCount);
+        return Err(Refusal::LeafCount);
     }
     let m = count_after(n, change);
-    let sizes = judge_sizes(n, m, listing.len(), table.len(), room, space);
-    let Outcome::Done = sizes else {
-        return sizes;
-    };
-    let rules = listings::judge(n, listing, 0, 0);
-    let Outcome::Done = rules else {
-        return rules;
-    };
+    judge_sizes(n, m, listing.len(), table.len(), room, space)?;
+    listings::judge(n, listing, 0, 0)?;
     judge_cells(is_there(n, change), n, listing, table)
 }

@@ -1,16 +1,26 @@
 -- A question from its positions: the first bad one is refused, with 9; where none is bad, none is refused.
 use mathlib.Core.Path.{◌≡◌, refl}
 use mathlib.Core.Bool.{true, false}
-use mathlib.Core.List.{List}
+use mathlib.Core.List.{List, [], ◌∷◌}
 use mathlib.Core.Option.{Option, none, some}
 use Prim.Native.Nat.{ℕ, ◌<◌}
+use native.Mathlib.Omega.{arith}
+use lib.Dec.{eqb}
 use lib.ListN.{length}
-use Rattle.base.specs.Lists.{tab}
+use Rattle.std.specs.List.{list_any}
+use Rattle.std.proofs.lemmas.Bool.Decides.{nat_tests}
+use Rattle.base.specs.Lists.{tab, any_in}
 use Rattle.base.proofs.Lists.{length_tab, getD_tab, none_not_some, none_found, find_none}
 use Rattle.base.proofs.Searches.{first_found}
 use Rattle.refusals.specs.declared.Refusal.{Refusal}
 use Rattle.refusals.specs.declared.Refusal.TheVariants.{Question}
 use Rattle.checks.specs.Questions.{wrong_at, question_refusal}
+
+-- whether x is in a list, as `contains` tells it
+pub any_equal : (x : ℕ) (l : List ℕ) → list_any (λ y. eqb y x) l ≡ any_in (eqb x) l
+unfolding any_in
+any_equal x [] = refl
+any_equal x (y ∷ l) = let turned : eqb y x ≡ eqb x y = grind (arith, nat_tests) in rw (turned, any_equal x l)
 
 module _ (n : ℕ) (q : List ℕ) where
   pub question_good : ((i : ℕ) → i < length q → wrong_at n q i ≡ false) → question_refusal n q ≡ none

@@ -1,13 +1,16 @@
 -- Sizes: which refusal arises of a test that fails, what holds where none arises, and that what is due counts only
 -- where the leaf count is right.
-use mathlib.Core.Path.{◌≡◌, sym, ◌∙◌}
+use Rattle.std.specs.Prelude.{Ok, Err}
+use mathlib.Core.Path.{◌≡◌, refl, sym, ◌∙◌}
 use mathlib.Core.Logic.{inl, inr, ◌≢◌}
 use mathlib.Core.Bool.{true, false}
-use mathlib.Core.List.{[], ◌∷◌}
-use mathlib.Core.Option.{none, some}
+use mathlib.Core.List.{List, [], ◌∷◌}
+use mathlib.Core.Option.{Option, none, some}
 use Prim.Native.Nat.{ℕ, ◌≤◌, ◌<◌}
+use native.Mathlib.Omega.{arith}
 use borrow.Author.Tests.{leb-true, eqb-true, le-leb, lt-leb, eq-eqb, ne_eqb}
 use lib.Dec.{leb, eqb}
+use lib.ListN.{length}
 use Rattle.base.proofs.Bools.{bool?, never, and_both}
 use Rattle.limits.specs.declared.Kind.{Kind}
 use Rattle.limits.specs.declared.Kind.TheVariants.{Counts}
@@ -19,7 +22,8 @@ use Rattle.refusals.specs.Refusals.{judged}
 use Rattle.refusals.proofs.Answers.{refuse_passed, refuse_failed, refuse_none, judged_stops, judged_passes}
 use Rattle.refusals.proofs.Answers.{judged_none, judged_alone}
 use Rattle.refusals.proofs.Causes.{Arises, arises_judged, arises_last, arises_refuse}
-use Rattle.checks.specs.Sizes.{right_count, count_refusal_of, length_refusal, room_refusal}
+use Rattle.checks.specs.Sizes.{right_count, count_refusal_of, length_refusal, value_unless, by_value}
+use Rattle.checks.specs.Sizes.{room_refusal}
 use Rattle.checks.specs.Sizes.{input_refusal, sizes_refusal}
 
 -- the test of a leaf count
@@ -60,6 +64,35 @@ length_passes due lent h = refuse_passed InputLength (eq-eqb lent due h)
 pub length_right : (due lent : ℕ) → length_refusal due lent ≡ none → lent ≡ due
 unfolding length_refusal
 length_right due lent h = eqb-true lent due (refuse_none _ InputLength h)
+
+-- a value, unless a refusal arises
+value_told : {A : Type 0} (o : Option Refusal) (x y : A) → Ok y ≡ value_unless o x → (o ≡ none) × (y ≡ x)
+unfolding value_unless
+value_told none x y h = (refl, cc)
+value_told (some r) x y h = absurd (let z : ◌≡◌ {A = ℕ} 0 1 = cc in omega arith)
+
+refusal_told : {A : Type 0} (o : Option Refusal) (x : A) (r : Refusal) → Err r ≡ value_unless o x → o ≡ some r
+unfolding value_unless
+refusal_told none x r h = absurd (let z : ◌≡◌ {A = ℕ} 0 1 = cc in omega arith)
+refusal_told (some q) x r h = cc
+
+-- a lent input by value, as code returns it; and what is known where it is returned
+module _ {A : Type 0} (due : ℕ) (l : List A) where
+  pub value_fits : (x : List A) → length l ≡ due → x ≡ l → Ok x ≡ by_value due l
+  unfolding by_value value_unless
+  value_fits x e h = rw (length_passes due (length l) e, h)
+
+  pub value_off : length l ≢ due → Err InputLength ≡ by_value due l
+  unfolding by_value value_unless
+  value_off d = rw (length_stops due (length l) d)
+
+  pub value_right : {x : List A} → Ok x ≡ by_value due l → (length_refusal due (length l) ≡ none) × (x ≡ l)
+  unfolding by_value
+  value_right h = value_told _ _ _ h
+
+  pub value_wrong : {r : Refusal} → Err r ≡ by_value due l → length_refusal due (length l) ≡ some r
+  unfolding by_value
+  value_wrong h = refusal_told _ _ _ h
 
 pub room_stops : (due room : ℕ) → room < due → room_refusal due room ≡ some OutputRoom
 unfolding room_refusal

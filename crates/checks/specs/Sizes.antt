@@ -1,6 +1,6 @@
 -- The refusals of sizes (01, "Causes of refusal"), which go before all others: 1, 2, 3.
-use Rattle.std.specs.Prelude.{Bool, ◌&&◌, [], ◌∷◌, ℕ, leb, eqb}
-use Rattle.std.proofs.Math.Option.{Option}
+use Rattle.std.specs.Prelude.{Bool, ◌&&◌, List, [], ◌∷◌, ℕ, length, leb, eqb, Result, Ok, Err}
+use Rattle.std.proofs.Math.Option.{Option, none, some}
 use Rattle.limits.specs.declared.Kind.{Kind}
 use Rattle.limits.specs.declared.Kind.TheVariants.{Counts, Poll}
 use Rattle.limits.specs.Limits.{fewest_of, most_of}
@@ -29,6 +29,15 @@ poll_count_refusal n = count_refusal_of Poll n
 -- 2: a lent input is not exactly as long as is due
 unfoldable pub length_refusal : (due lent : ℕ) → Option Refusal
 length_refusal due lent = refuse (eqb lent due) InputLength
+
+-- a value as code returns it, or the refusal that arises
+unfoldable pub value_unless : {A : Type 0} → Option Refusal → A → Result A Refusal
+value_unless none x = Ok x
+value_unless (some r) x = Err r
+
+-- a lent input that is to have `due` numbers, by value: 2
+unfoldable pub by_value : {A : Type 0} (due : ℕ) → List A → Result (List A) Refusal
+by_value due l = value_unless (length_refusal due (length l)) l
 
 -- 3: an output buffer is shorter than the result
 unfoldable pub room_refusal : (due room : ℕ) → Option Refusal

@@ -5,28 +5,20 @@ ghost use Rattle.std.specs.Prelude.{◌≡◌, ◌-◌, ◌*◌};
 ghost use Rattle.limits.specs.declared.Kind.TheVariants.{Counts};
 ghost use Rattle.limits.specs.Limits.{IsLeafCount, set_bytes};
 ghost use Rattle.refusals.specs.Refusals.{outcome_of};
-ghost use Rattle.checks.specs.Sizes.{within_range, right_count, input_refusal, sizes_refusal};
+ghost use Rattle.checks.specs.Sizes.{right_count, by_value, input_refusal, sizes_refusal};
 
 use limits::{FEWEST_POLLED, Kind, MOST_LEAVES, MOST_POLLED, SET_BYTES};
-use numbers::index_of_u8;
-use refusals::{Outcome, Refusal};
+use refusals::Refusal;
 
 pub mod questions;
-
-// Whether a number is at least `low` and at most `high`.
-fn within(low: usize, n: usize, high: usize) -> bool
-    ensures { result ≡ within_range low n high }
-{
-    low <= n && n <= high
-}
 
 // Whether a table of this kind may have n leaves.
 pub fn leaf_count_of(kind: Kind, n: usize) -> bool
     ensures { result ≡ right_count kind n }
 {
     match kind {
-        Kind::Counts => within(3, n, MOST_LEAVES),
-        Kind::Poll => within(FEWEST_POLLED, n, MOST_POLLED),
+        Kind::Counts => (3..=MOST_LEAVES).contains(&n),
+        Kind::Poll => (FEWEST_POLLED..=MOST_POLLED).contains(&n),
     }
 }
 
@@ -34,23 +26,24 @@ pub fn leaf_count_of(kind: Kind, n: usize) -> bool
 pub fn leaf_count(n: usize) -> bool
     ensures { result ≡ right_count Counts n }
 {
-    within(3, n, MOST_LEAVES)
+    leaf_count_of(Kind::Counts, n)
 }
 
 // The leaf count, and the length of a lent input against the length that is due: 1, 2.
-pub fn judge_input(kind: Kind, n: usize, due: usize, lent: usize) -> Outcome
+pub fn judge_input(kind: Kind, n: usize, due: usize, lent: usize) -> Result<(), Refusal>
     ensures { result ≡ outcome_of (input_refusal kind n due lent) }
 {
     if !leaf_count_of(kind, n) {
-        return Outcome::Refused(Refusal::LeafCount);
+        return Err(Refusal::LeafCount);
     }
     if lent != due {
-        return Outcome::Refused(Refusal::InputLength);
+        return Err(Refusal::InputLength);
     }
-    Outcome::Done
+    Ok(())
 }
 
 // The same, and the room for a result: 1, 2, 3.
+// Six numbers and no struct: at each call they come from six places.
 pub fn judge_sizes(
     kind: Kind,
     n: usize,
@@ -58,31 +51,30 @@ pub fn judge_sizes(
     lent: usize,
     res: usize,
     room: usize,
-) -> Outcome
+) -> Result<(), Refusal>
     ensures { result ≡ outcome_of (sizes_refusal kind n due lent res room) }
 {
-    let input = judge_input(kind, n, due, lent);
-    let Outcome::Done = input else {
-        return input;
-    };
+    judge_input(kind, n, due, lent)?;
     if room < res {
-        return Outcome::Refused(Refusal::OutputRoom);
+        return Err(Refusal::OutputRoom);
     }
-    input
+    Ok(())
 }
 
-// So many numbers for each leaf but some, where a tree may have n leaves; else 0.
+// A lent input by value: 2 where it is not exactly as long as the value.
+#[tactic(auto, using(crate::proofs::Sizes::value_fits, crate::proofs::Sizes::value_off))]
+pub fn by_value<T: Copy, const N: usize>(lent: &[T]) -> Result<[T; N], Refusal>
+    ensures { result ≡ by_value N lent.now }
+{
+    <[T; N]>::try_from(lent).map_err(|_| Refusal::InputLength)
+}
+
+// So many numbers for each leaf but some. They are bytes, so that the product fits at every leaf count.
 pub fn numbers_due(n: usize, each: u8, but: u8) -> usize
     ensures { IsLeafCount n → result ≡ each * (n - but) }
 {
-    let less = index_of_u8(but);
-    if !leaf_count(n) {
-        return 0;
-    }
-    if n < less {
-        return 0;
-    }
-    index_of_u8(each) * (n - less)
+    n.saturating_sub(usize::from(but))
+        .saturating_mul(usize::from(each))
 }
 
 // How many numbers a listing of n leaves has.
@@ -96,10 +88,7 @@ pub fn listing_numbers(n: usize) -> usize
 pub fn rows_of(n: usize) -> usize
     ensures { result ≡ n - 2 }
 {
-    if n < 2 {
-        return 0;
-    }
-    n - 2
+    n.saturating_sub(2)
 }
 
 // How many bytes the splits of a tree of n leaves take, a leaf set each.
@@ -109,25 +98,28 @@ pub fn split_bytes(n: usize) -> usize
     numbers_due(n, SET_BYTES as u8, 3)
 }
 
-// How many cells a table of n leaves has; 0 where no tree has n leaves.
+// How many cells a table of n leaves has.
 pub fn table_cells(n: usize) -> usize
     ensures { IsLeafCount n → result ≡ n * n }
 {
-    if !leaf_count(n) {
-        return 0;
-    }
-    n * n
+    n.saturating_mul(n)
 }
 
 // The sizes of a call that is lent a listing: 1, 2, 3.
-pub fn judge_listing_sizes(n: usize, lent: usize, res: usize, room: usize) -> Outcome
+pub fn judge_listing_sizes(n: usize, lent: usize, res: usize, room: usize) -> Result<(), Refusal>
     ensures { result ≡ outcome_of (sizes_refusal Counts n (2 * (n - 2)) lent res room) }
 {
     judge_sizes(Kind::Counts, n, listing_numbers(n), lent, res, room)
 }
 
 // The sizes of a call that is lent a table of this kind: 1, 2, 3.
-pub fn judge_table_sizes(kind: Kind, n: usize, lent: usize, res: usize, room: usize) -> Outcome
+pub fn judge_table_sizes(
+    kind: Kind,
+    n: usize,
+    lent: usize,
+    res: usize,
+    room: usize,
+) -> Result<(), Refusal>
     ensures { result ≡ outcome_of (sizes_refusal kind n (n * n) lent res room) }
 {
     judge_sizes(kind, n, table_cells(n), lent, res, room)

@@ -3,8 +3,7 @@ ghost use Rattle.std.specs.Prelude.{◌≡◌, ◌<◌, length};
 ghost use Rattle.refusals.specs.Refusals.{outcome_of};
 ghost use Rattle.checks.specs.Questions.{wrong_at, question_refusal};
 
-use numbers::index_of_u16;
-use refusals::{Outcome, Refusal};
+use refusals::Refusal;
 
 // Whether position p of a question is bad: no leaf, or a repeat of an earlier position.
 fn bad_at(n: usize, question: &[u16], p: usize) -> bool
@@ -12,29 +11,17 @@ fn bad_at(n: usize, question: &[u16], p: usize) -> bool
     ensures { result ≡ wrong_at n question.now p }
 {
     let x = question[p];
-    if n <= index_of_u16(x) {
-        return true;
-    }
-    let mut i = 0;
-    while i < p {
-        if x == question[i] {
-            return true;
-        }
-        i += 1;
-    }
-    false
+    n <= usize::from(x) || question[..p].contains(&x)
 }
 
 // Judges a question: 9, with the first bad position.
-pub fn judge_question(n: usize, question: &[u16]) -> Outcome
+pub fn judge_question(n: usize, question: &[u16]) -> Result<(), Refusal>
     ensures { result ≡ outcome_of (question_refusal n question.now) }
 {
-    let mut p = 0;
-    while p < question.len() {
+    for p in 0..question.len() {
         if bad_at(n, question, p) {
-            return Outcome::Refused(Refusal::Question(p));
+            return Err(Refusal::Question(p));
         }
-        p += 1;
     }
-    Outcome::Done
+    Ok(())
 }

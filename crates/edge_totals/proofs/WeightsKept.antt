@@ -1,7 +1,7 @@
 -- The weights as they are kept by number, row after row. No two rows name one number, so what was kept stays.
-use mathlib.Core.Path.{◌≡◌, ◌∙◌}
+use mathlib.Core.Path.{◌≡◌, refl, ap, ◌∙◌}
 use mathlib.Core.Logic.{◌≢◌}
-use mathlib.Core.List.{List}
+use mathlib.Core.List.{List, map}
 use Prim.Native.Nat.{ℕ, ◌+◌, ◌-◌, ◌*◌, ◌<◌}
 use native.Mathlib.Omega.{arith}
 use native.Mathlib.Decide.{ℕ_discrete}
@@ -10,10 +10,13 @@ use lib.Seq.{get_or-set_same, get_or-set_other}
 use Rattle.limits.specs.Limits.{most_nodes}
 use Rattle.trees.specs.Listings.{subtree_at, tree_of}
 use Rattle.grafted_cells.specs.inner.Moves.{new_row_gap}
+use Rattle.std.proofs.Math.Seq.{map-set_same}
+use Rattle.std.proofs.lemmas.List.{map-set}
+use Rattle.edge_weights.specs.declared.Weight.{Weight}
 use Rattle.edge_weights.specs.inner.Rows.{Given}
 use Rattle.edge_weights.specs.inner.Weights.{Weighed, RowWeighed}
 use Rattle.edge_weights.proofs.FreeNumbers.{child_range, children_differ}
-use Rattle.edge_totals.specs.inner.Kept.{RowsWeighed, AllWeighed}
+use Rattle.edge_totals.specs.inner.Kept.{unweighed, gains, losses, rows, RowsWeighed, AllWeighed}
 
 -- two entries of a list set, at different places
 module _ (l : List ℕ) (x y a b : ℕ) (long : length l ≡ most_nodes) where
@@ -28,6 +31,24 @@ module _ (l : List ℕ) (x y a b : ℕ) (long : length l ≡ most_nodes) where
 
   at_other : (e : ℕ) → e ≢ x → e ≢ y → get_or (set (set l x a) y b) e 0 ≡ get_or l e 0
   at_other e dx dy = get_or-set_other (set l x a) y e b 0 dy ∙ get_or-set_other l x e a 0 dx
+
+-- two weights kept, entry by entry
+pub kept_two :
+    (f : Weight → ℕ) (ws : List Weight) (x y : ℕ) (a b : Weight)
+    → map f (set (set ws x a) y b) ≡ set (set (map f ws) x (f a)) y (f b)
+kept_two f ws x y a b = map-set f (set ws x a) y b ∙ ap (λ l. set l y (f b)) (map-set f ws x a)
+
+-- and the row of one alone
+pub kept_row :
+    (ws : List Weight) (i r : ℕ)
+    → let w = get_or ws i unweighed in
+    let ws' = set ws i (record { gain = w.gain; loss = w.loss; row = r }) in
+    (gains ws' ≡ gains ws) × (losses ws' ≡ losses ws) × (rows ws' ≡ set (rows ws) i r)
+kept_row ws i r = (
+  map-set_same (λ w. w.gain) ws i _ unweighed refl,
+  map-set_same (λ w. w.loss) ws i _ unweighed refl,
+  map-set (λ w. w.row) ws i _,
+)
 
 pub weights_begun :
     {n s : ℕ} {l t u gains losses rows : List ℕ} → length gains ≡ most_nodes → length losses ≡ most_nodes

@@ -1,14 +1,15 @@
--- The table that is lent: which of its forms is meant, and its cells and rows as code reads them.
+-- The tables that are lent: their cells and rows as code reads them.
 use mathlib.Core.Path.{◌≡◌, sym, ◌∙◌}
 use mathlib.Core.Bool.{true, false}
 use mathlib.Core.List.{List, []}
+use mathlib.Core.Logic.{inl, inr}
 use Prim.Native.Nat.{ℕ, ◌+◌, ◌-◌, ◌*◌, ◌≤◌, ◌<◌}
-use native.Mathlib.Nat.{mul-le-mul, mul-le-mul_right, suc-mul, zero-mul, zero-add}
+use native.Mathlib.Nat.{mul-le-mul_right, suc-mul, zero-mul, zero-add}
 use native.Mathlib.Omega.{arith}
 use lib.ListN.{length, get_or, take, drop}
 use lib.Seq.{get_or-take, get_or-drop}
 use Rattle.base.specs.Numbers.{count_below}
-use Rattle.base.proofs.Bools.{is_false}
+use Rattle.base.proofs.Bools.{bool?}
 use Rattle.base.proofs.Counts.{count_ext}
 use Rattle.base.proofs.Filling.{getD_filled}
 use Rattle.limits.specs.Limits.{most_leaves, most_cells}
@@ -18,27 +19,26 @@ use Rattle.packed_tables.specs.Packed.{mirrored, table_with, packed_cells, Packe
 use Rattle.packed_tables.specs.Operations.{is_packed, packed_cell, with_packed_row}
 use Rattle.packed_tables.proofs.PackedIsTable.{cell_is}
 use Rattle.packed_tables.proofs.Sizes.{passed_packed, cell_read, row_read}
-use Rattle.eligible_pairs.specs.inner.Lent.{lent_table}
+use Rattle.eligible_pairs.specs.inner.Lent.{table_in}
 use Rattle.eligible_pairs.specs.inner.Mismatches.{mismatch_in, mismatch_at}
 
-module _ (n : ℕ) (t B : List ℕ) where
-  pub as_packed : is_packed n B ≡ true → lent_table n t B ≡ table_with n (packed_cells n B)
-  unfolding lent_table
+-- bytes with as many cells as a table of n leaves are a packed one
+module _ (n : ℕ) (B : List ℕ) where
+  pub as_packed : is_packed n B ≡ true → table_in n B ≡ table_with n (packed_cells n B)
+  unfolding table_in
   as_packed h = rw h
 
-  pub as_cells : is_packed n B ≡ false → lent_table n t B ≡ t
-  unfolding lent_table
-  as_cells h = rw h
+  none_without : is_packed n B ≡ false → table_in n B ≡ []
+  unfolding table_in
+  none_without h = rw h
 
--- no bytes are no packed table
-pub no_bytes : (n : ℕ) (t : List ℕ) → lent_table n t [] ≡ t
-no_bytes n t = as_cells n t [] (is_false (is_packed n []) none_packed)
-  where
-    none_packed : is_packed n [] ≡ true → ⊥
-    none_packed h =
-        let p = passed_packed n [] h in
-        let less : 2 ≤ n - 1 = omega (arith, p.0) in
-        omega (arith, p.1, mul-le-mul p.0.0 less)
+  pub meant_packed : length (table_in n B) ≡ n * n → 0 < n → Packed n B
+  meant_packed many some = elim (bool? (is_packed n B)) [
+    | inl h ↦ passed_packed n B h
+    | inr h ↦
+        let none : 0 ≡ n * n = rw (none_without h) at many in
+        absurd (omega (arith, none, mul-le-mul_right n some))
+  ]
 
 -- cells of a packed table: one, and a row that was copied to the front of a buffer
 module _ (n : ℕ) (B : List ℕ) (p : Packed n B) where
@@ -55,12 +55,6 @@ module _ (n : ℕ) (B : List ℕ) (p : Packed n B) where
       (get_or-take n _ y 0 hy
       ∙ getD_filled (mirrored n cells x) buffer n y 0 hy
       ∙ sym (cell_is n cells x y hx hy))
-
--- a whole row of the table
-pub row_inside :
-    (n i : ℕ) (t : List ℕ) → n ≤ most_leaves → i < n → length t ≡ n * n
-    → (i * n + n ≤ length t) × (length t ≤ most_cells)
-row_inside n i t h li e = (omega (arith, mul-le-mul_right n li, suc-mul i n), omega (arith, square_small n h))
 
 -- row x of a table of cells
 pub row_is :

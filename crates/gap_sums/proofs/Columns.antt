@@ -1,5 +1,5 @@
 -- Turns of the loops that work the sums of a subtree anew.
-use mathlib.Core.Path.{◌≡◌, refl, sym, ap, ◌∙◌}
+use mathlib.Core.Path.{◌≡◌, refl, sym, ◌∙◌}
 use mathlib.Core.Logic.{◌≢◌}
 use mathlib.Core.List.{List}
 use Prim.Native.Nat.{ℕ, ◌+◌, ◌-◌, ◌*◌, ◌^◌, ◌≤◌, ◌<◌}
@@ -9,8 +9,8 @@ use native.Mathlib.Omega.{arith}
 use native.Mathlib.Decide.{dec_lt, ℕ_discrete}
 use borrow.Author.Tests.{eqb-true, ne_eqb}
 use lib.Dec.{eqb}
-use lib.ListN.{length, get_or, set, take, drop, replicate, length-set, length-drop}
-use lib.Seq.{get_or-set_same, get_or-set_other, length-take-le}
+use lib.ListN.{length, get_or, set, replicate, length-set}
+use lib.Seq.{get_or-set_same, get_or-set_other}
 use Rattle.base.specs.Numbers.{indicator, sum_below, distance}
 use Rattle.base.proofs.Bools.{eqb_same}
 use Rattle.base.specs.Lists.{filled}
@@ -22,10 +22,9 @@ use Rattle.pair_counts.proofs.Pairs.{P_most}
 use Rattle.trees.specs.Tables.{cell, IsTable}
 use Rattle.trees.proofs.Tables.{halves_equal}
 use Rattle.state_arrays.specs.inner.Fits.{largest_sum, SmallSums}
-use Rattle.eligible_pairs.proofs.Lent.{row_is}
 use Rattle.gap_sums.specs.inner.PairPlaces.{pair_place, place_of}
 use Rattle.gap_sums.specs.inner.GapSums.{largest_gap, most_leaf_gaps, most_gaps, due_at, gap_in, leaf_gaps}
-use Rattle.gap_sums.specs.inner.GapSums.{subtree_gaps, SmallDues, SmallColumns, ColumnsFound, SmallGaps}
+use Rattle.gap_sums.specs.inner.GapSums.{subtree_gaps, SmallDues, SmallColumns, ColumnsFound}
 use Rattle.gap_sums.specs.inner.GapSums.{SumsFit, Stored, RowStarted, Started}
 use Rattle.gap_sums.proofs.PairPlaces.{place_within, place_apart, place_other, place_up, place_down}
 use Rattle.gap_sums.proofs.PairPlaces.{other_first, other_last}
@@ -102,19 +101,15 @@ column_small n t label m a due y x cells small few l h =
     let fits : x ≤ most_leaves = omega arith in
     omega (arith, mul-le-mul_right largest_gap fits)
 
--- a part of n numbers has n
-pub part_long : (t : List ℕ) (at n : ℕ) → at + n ≤ length t → length (take (at + n - at) (drop at t)) ≡ n
-part_long t at n h = length-take-le (at + n - at) (drop at t) (rw length-drop (omega arith)) ∙ omega arith
-
 -- the gaps of the leaf y, by its own row
 pub row_column :
-    (n : ℕ) (t label m : List ℕ) (a due y : ℕ) → IsTable n t → y < n
-    → (let row = take (y * n + n - y * n) (drop (y * n) t) in
-    sum_below n (λ x. indicator (eqb (get_or label x 0) a) (distance (get_or row x 0) (due + get_or m x 0))))
+    (n : ℕ) (t label m row : List ℕ) (a due y : ℕ) → IsTable n t → y < n
+    → ((x : ℕ) → x < n → get_or row x 0 ≡ cell n t y x)
+    → sum_below n (λ x. indicator (eqb (get_or label x 0) a) (distance (get_or row x 0) (due + get_or m x 0)))
     ≡ leaf_gaps n t label m a due y
 unfolding leaf_gaps gap_in
-row_column n t label m a due y is ly =
-    sum_ext n _ _ (λ x lx. rw (row_is n t y x lx, halves_equal is y x ly lx))
+row_column n t label m row a due y is ly cells =
+    sum_ext n _ _ (λ x lx. rw (cells x lx, halves_equal is y x ly lx))
 
 -- what is kept at a label so far is small
 pub label_small :
@@ -132,16 +127,6 @@ abbrev pub ColumnsTo : (n : ℕ) (t label m : List ℕ) (a : ℕ) (due : List �
 ColumnsTo n t label m a due y columns =
     (x : ℕ) → x < y → (get_or label x 0 ≢ a → get_or columns x 0 ≡ leaf_gaps n t label m a (get_or due x 0) x)
     × (get_or columns x 0 ≤ most_leaf_gaps)
-
--- one column more
-pub column_turn :
-    (n : ℕ) (t label m : List ℕ) (a : ℕ) (due : List ℕ) (y : ℕ) (columns : List ℕ) (v : ℕ) → y < length columns
-    → (get_or label y 0 ≢ a → v ≡ leaf_gaps n t label m a (get_or due y 0) y) × (v ≤ most_leaf_gaps)
-    → ColumnsTo n t label m a due y columns → ColumnsTo n t label m a due (y + 1) (set columns y v)
-column_turn n t label m a due y columns v l new old x lx = elim (ℕ_discrete x y) [
-  | yes e ↦ rw (e, get_or-set_same columns y v 0 l) new
-  | no d ↦ rw (get_or-set_other columns y x v 0 d) (old x (omega arith))
-]
 
 -- What is expected of every leaf, as it is filled in.
 module _ {n : ℕ} {label m sizes p : List ℕ} {a : ℕ} (f : SumsFit n label m sizes p a) {due : List ℕ}

@@ -15,8 +15,10 @@ ghost use Rattle.gap_sums.specs.inner.GapSums.{leaf_gaps, subtree_gaps, SmallDue
 ghost use Rattle.gap_sums.specs.inner.GapSums.{ColumnsFound, SmallGaps, SumsFit, Stored};
 ghost use Rattle.gap_sums.specs.inner.GapSums.{RowStarted, Started};
 
+use eligible_pairs::row_of;
 use limits::{LEAF_COUNTS, MOST_LEAVES, MOST_PAIRS};
-use numbers::{apart, index_of_u32};
+use numbers::apart;
+use state_arrays::Arrays;
 
 // The gaps of a row are added to what is kept of each column: `due` is expected there, and the m of the row's leaf.
 fn add_row(
@@ -32,10 +34,8 @@ fn add_row(
         ≡ filled n (λ y. get_or columns.old y 0
         + distance (get_or row.now y 0) (get_or due.now y 0 + m)) columns.old }
 {
-    let mut y: usize = 0;
-    while y < n {
+    for y in 0..n {
         columns[y] += apart(row[y], due[y] + m) as u64;
-        y += 1;
     }
 }
 
@@ -43,47 +43,39 @@ fn add_row(
 fn add_row_of(
     n: usize,
     table: &[u32],
-    label: &[u32; MOST_LEAVES],
-    m: &[u32; MOST_LEAVES],
+    arrays: &Arrays,
     a: u32,
     due: &[u32; MOST_LEAVES],
     x: usize,
     columns: &mut [u64; MOST_LEAVES],
 )
-    requires { (n ≤ most_leaves) × (length table.now ≡ n * n) × SmallSums n m.now × SmallDues n due.now
+    requires { (n ≤ most_leaves) × (length table.now ≡ n * n) × SmallSums n arrays.now.m × SmallDues n due.now
         × (x < n) × SmallColumns n columns.old }
     ensures { (length columns.new ≡ most_leaves)
         × ((y : ℕ) → y < n → get_or columns.new y 0
         ≡ get_or columns.old y 0
-        + gap_in n table.now label.now m.now a (get_or due.now y 0) y x) }
+        + gap_in n table.now arrays.now.label arrays.now.m a (get_or due.now y 0) y x) }
 {
-    if label[x] != a {
-        return;
+    if arrays.label[x] == a {
+        add_row(n, row_of(n, table, x), due, arrays.m[x], columns);
     }
-    let at = x * n;
-    let end = at + n;
-    add_row(n, &table[at..end], due, m[x], columns);
 }
 
 // The columns of all leaves, by the rows of the subtree `a`.
 fn add_rows(
     n: usize,
     table: &[u32],
-    label: &[u32; MOST_LEAVES],
-    m: &[u32; MOST_LEAVES],
+    arrays: &Arrays,
     a: u32,
     due: &[u32; MOST_LEAVES],
     columns: &mut [u64; MOST_LEAVES],
 )
-    requires { (n ≤ most_leaves) × (length table.now ≡ n * n) × SmallSums n m.now × SmallDues n due.now
+    requires { (n ≤ most_leaves) × (length table.now ≡ n * n) × SmallSums n arrays.now.m × SmallDues n due.now
         × (length columns.old ≡ most_leaves) × ((y : ℕ) → y < n → get_or columns.old y 0 ≡ 0) }
-    ensures { ColumnsFound n table.now label.now m.now a due.now
-        columns.new }
+    ensures { ColumnsFound n table.now arrays.now.label arrays.now.m a due.now columns.new }
 {
-    let mut x: usize = 0;
-    while x < n {
-        add_row_of(n, table, label, m, a, due, x, columns);
-        x += 1;
+    for x in 0..n {
+        add_row_of(n, table, arrays, a, due, x, columns);
     }
 }
 
@@ -91,80 +83,55 @@ fn add_rows(
 fn gap_of(label: u32, a: u32, cell: u32, expected: u32) -> u32
     ensures { (result ≡ indicator (eqb label a) (distance cell expected)) × (result ≤ largest_gap) }
 {
-    if label != a {
-        return 0;
-    }
-    apart(cell, expected)
+    if label == a { apart(cell, expected) } else { 0 }
 }
 
 // The gaps of the leaves of the subtree `a` in a row, added up: `due` is expected there, and their m. Their lower and
 // their upper 16 bits are added up apart, in 32 bits: so the processor takes four cells at a time.
-fn row_gaps(
-    n: usize,
-    row: &[u32],
-    label: &[u32; MOST_LEAVES],
-    m: &[u32; MOST_LEAVES],
-    a: u32,
-    due: u32,
-) -> u64
-    requires { (n ≤ most_leaves) × (n ≤ length row.now) × SmallSums n m.now × (due ≤ 2 * largest_sum) }
-    ensures { (result ≡ sum_below n (λ x. indicator (eqb (get_or label.now x 0) a)
-        (distance (get_or row.now x 0) (due + get_or m.now x 0)))) × (result ≤ most_leaf_gaps) }
+fn row_gaps(n: usize, row: &[u32], arrays: &Arrays, a: u32, due: u32) -> u64
+    requires { (n ≤ most_leaves) × (n ≤ length row.now) × SmallSums n arrays.now.m × (due ≤ 2 * largest_sum) }
+    ensures { (result ≡ sum_below n (λ x. indicator (eqb (get_or arrays.now.label x 0) a)
+        (distance (get_or row.now x 0) (due + get_or arrays.now.m x 0)))) × (result ≤ most_leaf_gaps) }
 {
     let mut low: u32 = 0;
     let mut high: u32 = 0;
-    let mut x: usize = 0;
-    while x < n {
-        let gap = gap_of(label[x], a, row[x], due + m[x]);
+    for x in 0..n {
+        let gap = gap_of(arrays.label[x], a, row[x], due + arrays.m[x]);
         low += gap % 65536;
         high += gap / 65536;
-        x += 1;
     }
     (low as u64) + 65536 * (high as u64)
 }
 
 // The column of leaf y, if it is outside of the subtree `a`, by its own row: the halves of the table are equal.
-fn column_of(
-    n: usize,
-    table: &[u32],
-    label: &[u32; MOST_LEAVES],
-    m: &[u32; MOST_LEAVES],
-    a: u32,
-    due: u32,
-    y: usize,
-) -> u64
-    requires { (n ≤ most_leaves) × IsTable n table.now × SmallSums n m.now × (due ≤ 2 * largest_sum) × (y < n) }
-    ensures { (get_or label.now y 0 ≢ a
-        → result ≡ leaf_gaps n table.now label.now m.now a due y)
+fn column_of(n: usize, table: &[u32], arrays: &Arrays, a: u32, due: u32, y: usize) -> u64
+    requires { (n ≤ most_leaves) × IsTable n table.now × SmallSums n arrays.now.m × (due ≤ 2 * largest_sum) × (y < n) }
+    ensures { (get_or arrays.now.label y 0 ≢ a
+        → result ≡ leaf_gaps n table.now arrays.now.label arrays.now.m a due y)
         × (result ≤ most_leaf_gaps) }
 {
-    if label[y] == a {
-        return 0;
+    if arrays.label[y] == a {
+        0
+    } else {
+        row_gaps(n, row_of(n, table, y), arrays, a, due)
     }
-    let at = y * n;
-    let end = at + n;
-    row_gaps(n, &table[at..end], label, m, a, due)
 }
 
 // The columns of the leaves outside of the subtree `a`, each by its own row.
 fn fill_outside(
     n: usize,
     table: &[u32],
-    label: &[u32; MOST_LEAVES],
-    m: &[u32; MOST_LEAVES],
+    arrays: &Arrays,
     a: u32,
     due: &[u32; MOST_LEAVES],
     columns: &mut [u64; MOST_LEAVES],
 )
-    requires { (n ≤ most_leaves) × IsTable n table.now × SmallSums n m.now × SmallDues n due.now
+    requires { (n ≤ most_leaves) × IsTable n table.now × SmallSums n arrays.now.m × SmallDues n due.now
         × (length columns.old ≡ most_leaves) }
-    ensures { ColumnsFound n table.now label.now m.now a due.now
-        columns.new }
+    ensures { ColumnsFound n table.now arrays.now.label arrays.now.m a due.now columns.new }
 {
-    let mut y: usize = 0;
-    while y < n {
-        columns[y] = column_of(n, table, label, m, a, due[y], y);
-        y += 1;
+    for y in 0..n {
+        columns[y] = column_of(n, table, arrays, a, due[y], y);
     }
 }
 
@@ -173,23 +140,21 @@ fn fill_outside(
 fn find_columns(
     n: usize,
     table: &[u32],
-    label: &[u32; MOST_LEAVES],
-    m: &[u32; MOST_LEAVES],
+    arrays: &Arrays,
     a: u32,
     size: usize,
     due: &[u32; MOST_LEAVES],
     columns: &mut [u64; MOST_LEAVES],
 )
-    requires { (n ≤ most_leaves) × IsTable n table.now × SmallSums n m.now × SmallDues n due.now
+    requires { (n ≤ most_leaves) × IsTable n table.now × SmallSums n arrays.now.m × SmallDues n due.now
         × (length columns.old ≡ most_leaves) × ((y : ℕ) → y < n → get_or columns.old y 0 ≡ 0) }
-    ensures { ColumnsFound n table.now label.now m.now a due.now
-        columns.new }
+    ensures { ColumnsFound n table.now arrays.now.label arrays.now.m a due.now columns.new }
 {
     if size <= n / 2 {
-        add_rows(n, table, label, m, a, due, columns);
-        return;
+        add_rows(n, table, arrays, a, due, columns);
+    } else {
+        fill_outside(n, table, arrays, a, due, columns);
     }
-    fill_outside(n, table, label, m, a, due, columns);
 }
 
 // What is expected of a cell of a leaf of the subtree `b`, with this m, and a leaf of the subtree `a`, but for the m of
@@ -209,30 +174,34 @@ fn due_of(
         + get_or sizes.now b 0)) 0 + m) × (result ≤ 2 * largest_sum) }
 {
     if b == a {
-        return 0;
+        0
+    } else {
+        p[n - (sizes[a] + sizes[b])] + m
     }
-    p[n - (sizes[a] + sizes[b])] + m
 }
 
 // The same of every leaf.
 fn fill_due(
     n: usize,
-    label: &[u32; MOST_LEAVES],
-    m: &[u32; MOST_LEAVES],
-    sizes: &[usize; MOST_LEAVES],
+    arrays: &Arrays,
     p: &[u32; LEAF_COUNTS],
     a: usize,
     due: &mut [u32; MOST_LEAVES],
 )
-    requires { SumsFit n label.now m.now sizes.now p.now a × (length due.old ≡ most_leaves) }
+    requires { SumsFit n arrays.now.label arrays.now.m arrays.now.sizes p.now a × (length due.old ≡ most_leaves) }
     ensures { due.new
-        ≡ filled n (due_at n label.now m.now sizes.now p.now a)
+        ≡ filled n (due_at n arrays.now.label arrays.now.m arrays.now.sizes p.now a)
         due.old }
 {
-    let mut y: usize = 0;
-    while y < n {
-        due[y] = due_of(n, index_of_u32(label[y]), m[y], sizes, p, a);
-        y += 1;
+    for y in 0..n {
+        due[y] = due_of(
+            n,
+            arrays.label[y] as usize,
+            arrays.m[y],
+            &arrays.sizes,
+            p,
+            a,
+        );
     }
 }
 
@@ -248,11 +217,9 @@ fn add_columns(
     ensures { (k : ℕ) → k < n → get_or sums.new k 0
         ≡ sum_below n (λ y. indicator (eqb (get_or label.now y 0) k) (get_or columns.now y 0)) }
 {
-    let mut y: usize = 0;
-    while y < n {
-        let b = index_of_u32(label[y]);
+    for y in 0..n {
+        let b = label[y] as usize;
         sums[b] += columns[y];
-        y += 1;
     }
 }
 
@@ -272,9 +239,7 @@ fn store_one(n: usize, a: usize, k: usize, v: u64, sums: &mut [u64; MOST_PAIRS])
 {
     if k < a {
         sums[pair_place(k, a)] = v;
-        return;
-    }
-    if a < k {
+    } else if a < k {
         sums[pair_place(a, k)] = v;
     }
 }
@@ -285,10 +250,8 @@ fn store(n: usize, a: usize, new: &[u64; MOST_LEAVES], sums: &mut [u64; MOST_PAI
         × ((k : ℕ) → k < n → get_or new.now k 0 ≤ most_gaps) }
     ensures { Stored n a n (λ k. get_or new.now k 0) sums.old sums.new }
 {
-    let mut k: usize = 0;
-    while k < n {
+    for k in 0..n {
         store_one(n, a, k, new[k], sums);
-        k += 1;
     }
 }
 
@@ -296,25 +259,23 @@ fn store(n: usize, a: usize, new: &[u64; MOST_LEAVES], sums: &mut [u64; MOST_PAI
 pub fn renew(
     n: usize,
     table: &[u32],
-    label: &[u32; MOST_LEAVES],
-    m: &[u32; MOST_LEAVES],
-    sizes: &[usize; MOST_LEAVES],
+    arrays: &Arrays,
     p: &[u32; LEAF_COUNTS],
     a: usize,
     sums: &mut [u64; MOST_PAIRS],
 )
-    requires { IsTable n table.now × SumsFit n label.now m.now sizes.now p.now a
+    requires { IsTable n table.now × SumsFit n arrays.now.label arrays.now.m arrays.now.sizes p.now a
         × SmallGaps n sums.old }
-    ensures { Stored n a n (subtree_gaps n table.now label.now m.now
-        sizes.now p.now a) sums.old sums.new }
+    ensures { Stored n a n (subtree_gaps n table.now arrays.now.label arrays.now.m
+        arrays.now.sizes p.now a) sums.old sums.new }
 {
     let mut due = [0u32; MOST_LEAVES];
     let mut columns = [0u64; MOST_LEAVES];
     let mut new = [0u64; MOST_LEAVES];
-    let size = sizes[a];
-    fill_due(n, label, m, sizes, p, a, &mut due);
-    find_columns(n, table, label, m, a as u32, size, &due, &mut columns);
-    add_columns(n, label, &columns, &mut new);
+    let size = arrays.sizes[a];
+    fill_due(n, arrays, p, a, &mut due);
+    find_columns(n, table, arrays, a as u32, size, &due, &mut columns);
+    add_columns(n, &arrays.label, &columns, &mut new);
     store(n, a, &new, sums);
 }
 
@@ -323,10 +284,8 @@ fn start_row(row: &[u32], e: u32, j: usize, sums: &mut [u64; MOST_PAIRS])
     requires { (j < most_leaves) × (j ≤ length row.now) × (length sums.old ≡ most_pairs) }
     ensures { RowStarted row.now e j j sums.old sums.new }
 {
-    let mut i: usize = 0;
-    while i < j {
+    for i in 0..j {
         sums[pair_place(i, j)] = apart(row[i], e) as u64;
-        i += 1;
     }
 }
 
@@ -335,11 +294,7 @@ pub fn start(n: usize, table: &[u32], e: u32, sums: &mut [u64; MOST_PAIRS])
     requires { (n ≤ most_leaves) × (length table.now ≡ n * n) × (length sums.old ≡ most_pairs) }
     ensures { Started n table.now e n sums.new }
 {
-    let mut j: usize = 0;
-    while j < n {
-        let at = j * n;
-        let end = at + n;
-        start_row(&table[at..end], e, j, sums);
-        j += 1;
+    for j in 0..n {
+        start_row(row_of(n, table, j), e, j, sums);
     }
 }

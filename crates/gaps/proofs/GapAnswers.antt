@@ -1,5 +1,6 @@
 -- A table and a listing as they are judged for the gap, one go after the other; and what holds exactly where nothing
 -- is refused.
+use Rattle.std.specs.Prelude.{Ok, Err}
 use mathlib.Core.Path.{◌≡◌, ap, sym, ◌∙◌}
 use mathlib.Core.List.{List, [], ◌∷◌}
 use mathlib.Core.Option.{Option, none}
@@ -10,10 +11,8 @@ use Rattle.limits.specs.declared.Kind.{Kind}
 use Rattle.limits.specs.Limits.{IsCountOf}
 use Rattle.limits.proofs.TableKinds.{leaf_count_of}
 use Rattle.refusals.specs.declared.Refusal.{Refusal}
-use Rattle.refusals.specs.declared.Outcome.{Outcome}
-use Rattle.refusals.specs.declared.Outcome.TheVariants.{Done, Refused}
-use Rattle.refusals.specs.Refusals.{judged, outcome_of}
-use Rattle.refusals.proofs.Answers.{judged_passes, judged_alone, judged_none, go_stops, go_passes}
+use Rattle.refusals.specs.Refusals.{Outcome, judged, outcome_of}
+use Rattle.refusals.proofs.Answers.{HandsOn, judged_passes, judged_alone, judged_none, go_stops, go_passes}
 use Rattle.trees.specs.Listings.{KeepsRules}
 use Rattle.trees.specs.Tables.{IsTable, cells_refusal}
 use Rattle.trees.proofs.Tables.{passes, passes_exactly}
@@ -33,10 +32,10 @@ module _ (kind : Kind) (n : ℕ) (t l : List ℕ) (room : ℕ) where
   listed = listing_refusal n l (n * n) room
 
   pub sizes_stop :
-      {q : Outcome} {r : Refusal} → q ≡ outcome_of sizes → q ≡ Refused r
-      → q ≡ outcome_of (gap_refusal kind n t l room)
+      {q r : Outcome} {e : Refusal} → q ≡ outcome_of sizes → q ≡ Err e → HandsOn r e
+      → r ≡ outcome_of (gap_refusal kind n t l room)
   unfolding gap_refusal
-  sizes_stop told h = go_stops sizes told _ h
+  sizes_stop told h p = go_stops sizes told _ h p
 
   module _ (fine : sizes ≡ none) where
     rest : gap_refusal kind n t l room ≡ judged (listed ∷ cells_refusal n t ∷ [])
@@ -44,13 +43,13 @@ module _ (kind : Kind) (n : ℕ) (t l : List ℕ) (room : ℕ) where
     rest = judged_passes _ fine
 
     pub listing_stops :
-        {q : Outcome} {r : Refusal} → q ≡ outcome_of listed → q ≡ Refused r
-        → q ≡ outcome_of (gap_refusal kind n t l room)
-    listing_stops told h = go_stops listed told _ h ∙ ap outcome_of (sym rest)
+        {q r : Outcome} {e : Refusal} → q ≡ outcome_of listed → q ≡ Err e → HandsOn r e
+        → r ≡ outcome_of (gap_refusal kind n t l room)
+    listing_stops told h p = go_stops listed told _ h p ∙ ap outcome_of (sym rest)
 
     -- of what is judged of a table alone only 4 and 5 are left to arise
     pub cells_decide :
-        {q r : Outcome} → q ≡ outcome_of listed → q ≡ Done → r ≡ outcome_of (table_refusal kind n t 0 0)
+        {q r : Outcome} → q ≡ outcome_of listed → q ≡ Ok tt → r ≡ outcome_of (table_refusal kind n t 0 0)
         → r ≡ outcome_of (gap_refusal kind n t l room)
     cells_decide told h e =
         let right = input_right kind n (n * n) (length t) fine in

@@ -1,5 +1,4 @@
--- Two numbers of 32 bits as signed numbers of 64 bits, and their difference, which is exact.
-use mathlib.Core.Path.{◌≡◌}
+-- The difference of two numbers of 32 bits fits in a signed number of 64 bits: so a gap is exact.
 use mathlib.Core.Bool.{Bool, true, false, cond}
 use Prim.Native.Nat.{ℕ, zero, suc, ◌-◌, ◌<◌, ◌^◌}
 use native.Mathlib.Omega.{arith}
@@ -7,11 +6,7 @@ use lib.Dec.{ltb}
 use lib.IntN.{pos, negsuc, ◌-ℤ◌}
 use lib.Signed.{mag}
 use mir.Syntax.{w64}
-use mir.Val.{SFits, to_z}
-use mir.ValLaws.{to_z_pos}
-
-pub wide : (x : ℕ) → x < 2 ^ 32 → to_z w64 x ≡ pos x
-wide x h = to_z_pos w64 x (omega arith)
+use mir.Val.{SFits}
 
 pub difference_fits : (x y : ℕ) → x < 2 ^ 32 → y < 2 ^ 32 → SFits w64 (pos x -ℤ pos y)
 difference_fits x zero a b = record { sfits = omega arith }

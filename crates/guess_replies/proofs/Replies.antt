@@ -1,5 +1,6 @@
 -- What the reply of a guess tells: number, origin and total gap come apart again, and it is 0 exactly where a tree has
 -- the table. The total gap fits 48 bits where the cells fit 32 (guess_answers/Promises), so that nothing is cut off.
+use Rattle.std.specs.Prelude.{Result}
 use mathlib.Core.Path.{◌≡◌, refl, ap, sym, ◌∙◌}
 use mathlib.Core.Logic.{◌↔◌}
 use Prim.Native.Nat.{ℕ, ◌+◌, ◌*◌, ◌/◌, ◌%◌, ◌^◌, ◌<◌}
@@ -11,16 +12,16 @@ use Rattle.tree_records.specs.declared.Origin.TheVariants.{Rebuilt, Listed, Impo
 use Rattle.tree_records.specs.Origins.{origin_number, origin_of}
 use Rattle.tree_records.proofs.Origins.{numbered}
 use Rattle.replies.specs.Replies.{eight_bits, refusal_reply}
+use Rattle.replies.specs.inner.Told.{told_reply}
 use Rattle.replies.proofs.Replies.{taken_apart, told_whole, two_in_one}
 use Rattle.merging.specs.Guesses.{Reply}
-use Rattle.guesses.specs.declared.GuessOutcome.{GuessOutcome}
-use Rattle.guesses.specs.Outcomes.{guess_outcome}
+use Rattle.guesses.specs.declared.Found.{Found}
+use Rattle.guesses.specs.Outcomes.{guess_outcome, found_figure}
 use Rattle.guess_replies.specs.Replies.{guess_reply}
-use Rattle.guess_replies.specs.inner.Outcomes.{guess_outcome_reply}
 
 -- the reply, as code makes it of the answer q
 pub guess_replied :
-    {r : ℕ} {q : GuessOutcome} (a : Answer Reply) → r ≡ guess_outcome_reply q → q ≡ guess_outcome a
+    {r : ℕ} {q : Result Found Refusal} (a : Answer Reply) → r ≡ told_reply found_figure q → q ≡ guess_outcome a
     → r ≡ guess_reply a
 unfolding guess_outcome guess_reply
 guess_replied (accepted R) h e = rw e at h

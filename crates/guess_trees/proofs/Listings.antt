@@ -1,14 +1,12 @@
 -- The listing of the guess's tree, from the bytes that hold the tree's table, and as it stands in the buffer.
-use mathlib.Core.Path.{◌≡◌, refl, ap, sym, ◌∙◌}
-use mathlib.Core.List.{List, [], ◌++◌}
-use Prim.Native.Nat.{ℕ, ◌-◌, ◌*◌, ◌≤◌, ◌<◌}
-use native.Mathlib.Nat.{mul-le-mul}
-use native.Mathlib.Omega.{arith}
-use lib.ListN.{length, take, drop, length-append, length-drop}
+use mathlib.Core.Path.{◌≡◌, sym}
+use mathlib.Core.List.{List, ◌++◌}
+use Prim.Native.Nat.{ℕ, ◌-◌, ◌*◌, ◌≤◌}
+use lib.ListN.{length, take, drop}
 use lib.Seq.{take_at}
 use Rattle.limits.specs.declared.Kind.{Kind}
-use Rattle.limits.specs.Limits.{most_leaves, most_pairs, IsLeafCount, IsCountOf, scale_of}
-use Rattle.limits.proofs.TableKinds.{leaf_count_of, scale_bounds}
+use Rattle.limits.specs.Limits.{IsCountOf, scale_of}
+use Rattle.limits.proofs.TableKinds.{leaf_count_of}
 use Rattle.refusals.specs.Refusals.{accepted, written}
 use Rattle.trees.specs.Listings.{KeepsRules, tree_of}
 use Rattle.trees.specs.Tables.{IsTable}
@@ -20,13 +18,9 @@ use Rattle.packed_tables.proofs.Sizes.{packed_passes}
 use Rattle.merging.specs.Rebuilds.{rebuilt}
 use Rattle.merging.specs.Guesses.{guessed}
 use Rattle.merging.proofs.Guesses.{guess_keeps, guess_total}
-use Rattle.eligible_pairs.specs.inner.Lent.{lent_table}
+use Rattle.eligible_pairs.specs.inner.Lent.{table_in}
 use Rattle.eligible_pairs.proofs.Lent.{as_packed}
 use Rattle.guess_trees.specs.inner.TreeTables.{TreeTable}
-
--- the bytes of n leaves are no more than those of the most leaves
-pub bytes_most : (n : ℕ) → IsLeafCount n → n * (n - 1) ≤ 2 * most_pairs
-bytes_most n c = let l : n - 1 ≤ most_leaves - 1 = omega (arith, c) in omega (arith, mul-le-mul c.1 l)
 
 -- the bytes at the front of the array, as the rebuild is lent them
 module _ {n s : ℕ} {t F : List ℕ} (h : TreeTable n s t F) (R : List ℕ) where
@@ -36,12 +30,12 @@ module _ {n s : ℕ} {t F : List ℕ} (h : TreeTable n s t F) (R : List ℕ) whe
   pub front_long : length (take (n * (n - 1)) (F ++ R)) ≡ n * (n - 1)
   front_long = rw front h.packed.1
 
-  pub front_table : IsTable n (lent_table n [] (take (n * (n - 1)) (F ++ R)))
-  front_table = rw (front, as_packed n [] F (packed_passes n F h.packed)) (sheet_is_table n (packed_cells n F))
+  pub front_table : IsTable n (table_in n (take (n * (n - 1)) (F ++ R)))
+  front_table = rw (front, as_packed n F (packed_passes n F h.packed)) (sheet_is_table n (packed_cells n F))
 
-  pub front_rebuilt : rebuilt n s (lent_table n [] (take (n * (n - 1)) (F ++ R))) ≡ accepted (guessed n s t).listing
+  pub front_rebuilt : rebuilt n s (table_in n (take (n * (n - 1)) (F ++ R))) ≡ accepted (guessed n s t).listing
   unfolding guessed
-  front_rebuilt = rw (front, as_packed n [] F (packed_passes n F h.packed)) h.rebuilds
+  front_rebuilt = rw (front, as_packed n F (packed_passes n F h.packed)) h.rebuilds
 
 -- The listing in the buffer.
 module _ (kind : Kind) (n : ℕ) (t : List ℕ) (count : IsCountOf kind n) (is_table : IsTable n t) where
@@ -65,7 +59,3 @@ module _ (kind : Kind) (n : ℕ) (t : List ℕ) (count : IsCountOf kind n) (is_t
     pub out_front : take (2 * (n - 2)) (written (accepted l) out) ≡ l
     unfolding written
     out_front = take_at l (drop (length l) out) (2 * (n - 2)) listing_keeps.numbers
-
-    pub out_long : length (written (accepted l) out) ≡ length out
-    unfolding written
-    out_long = simp (length-append, length-drop) (omega (arith, listing_keeps.numbers))

@@ -10,9 +10,9 @@ ghost use Rattle.packed_tables.specs.Packed.{Packed};
 ghost use Rattle.merging.specs.Guesses.{guessed};
 ghost use Rattle.guess_trees.specs.inner.TreeTables.{TreeTable};
 
+use eligible_pairs::PackedCells;
 use limits::{Kind, MOST_LEAVES, MOST_PAIRS};
-use numbers::own_numbers;
-use state_arrays::scaled_counts;
+use state_arrays::{Arrays, scaled_counts};
 
 // The table of the tree that the guess makes, packed in the bytes `own`.
 fn write_tree_table(kind: Kind, n: usize, table: &[u32], own: &mut [u8])
@@ -20,26 +20,12 @@ fn write_tree_table(kind: Kind, n: usize, table: &[u32], own: &mut [u8])
     ensures { TreeTable n (scale_of kind) table.now own.new }
 {
     let p = scaled_counts(kind, n);
-    let mut label: [u32; MOST_LEAVES] = [0; MOST_LEAVES];
-    let mut m: [u32; MOST_LEAVES] = [0; MOST_LEAVES];
-    let mut sizes: [usize; MOST_LEAVES] = [1; MOST_LEAVES];
+    let mut arrays = Arrays::single(n);
     let mut sums: [u64; MOST_PAIRS] = [0; MOST_PAIRS];
     let mut partners: [usize; MOST_LEAVES] = [0; MOST_LEAVES];
-    own_numbers(n, &mut label);
-    let e = p[n - 2];
-    gap_sums::start(n, table, e, &mut sums);
-    nearest_pairs::find_partners(n, &label, &sizes, &sums, &mut partners);
-    guess_merges::merge_by_means(
-        n,
-        table,
-        &mut label,
-        &mut m,
-        &mut sizes,
-        &p,
-        &mut sums,
-        &mut partners,
-        own,
-    );
+    gap_sums::start(n, table, p[n - 2], &mut sums);
+    nearest_pairs::find_partners(n, &arrays, &sums, &mut partners);
+    guess_merges::merge_by_means(n, table, &mut arrays, &p, &mut sums, &mut partners, own);
 }
 
 // The tree of the guess: its standard listing, at the front of `out`.
@@ -51,8 +37,8 @@ fn write_listing(kind: Kind, n: usize, table: &[u32], out: &mut [u16])
     let mut own: [u8; 2 * MOST_PAIRS] = [0; 2 * MOST_PAIRS];
     let end = n * (n - 1);
     write_tree_table(kind, n, table, &mut own[..end]);
-    let cells: [u32; 0] = [];
-    own_rebuild::rebuild_checked(kind, n, &cells, &own[..end], out);
+    // The tree's own table is never refused.
+    let _ = own_rebuild::rebuild_checked(kind, n, &PackedCells { bytes: &own[..end] }, out);
 }
 
 // The guess for a table of this kind that has passed the checks: writes the standard listing of its tree at the front

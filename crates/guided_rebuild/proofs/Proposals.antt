@@ -1,8 +1,9 @@
 -- Proposals: leaves i and j name the subtrees that their labels stand for, so the test of the two labels says whether
 -- the pair is eligible, and a merge of the labels is the step i j. Where all n − 1 are accepted, they are a finished
 -- list, so the guided rebuild has our own rebuild's result.
+use Rattle.std.specs.Prelude.{Ok, Err}
 use mathlib.Core.Path.{◌≡◌, refl, sym, ap, ◌∙◌}
-use mathlib.Core.Logic.{◌≢◌}
+use mathlib.Core.Logic.{◌≢◌, inl, inr}
 use mathlib.Core.Bool.{Bool, true, false}
 use mathlib.Core.List.{List, ◌∷◌}
 use mathlib.Core.Option.{none, some}
@@ -12,28 +13,30 @@ use native.Mathlib.Omega.{arith}
 use lib.ListN.{length, get_or, drop, drop_of_length-le}
 use lib.Seq.{drop-cons}
 use Rattle.refusals.specs.declared.Refusal.TheVariants.{Proposal}
-use Rattle.base.proofs.Bools.{never, is_false, bool_iff}
+use Rattle.base.proofs.Bools.{bool?, never, is_false, bool_iff}
 use Rattle.base.proofs.Lists.{getD_tab}
 use Rattle.limits.specs.Limits.{IsLeafCount}
-use Rattle.refusals.specs.Refusals.{refused}
+use Rattle.refusals.specs.declared.Refusal.{Refusal}
+use Rattle.refusals.specs.Refusals.{Answer, accepted, refused, outcome, written}
 use Rattle.trees.specs.Trees.{leaves, least}
 use Rattle.trees.specs.Tables.{cell, IsTable}
 use Rattle.trees.proofs.Trees.{least_in}
 use Rattle.trees.proofs.Tables.{halves_equal}
 use Rattle.merging.specs.Merging.{State, start, eligible, step}
+use Rattle.merging.specs.MergeLists.{each_eligible}
 use Rattle.merging.specs.Rebuilds.{rebuilt, stop_at, guided}
 use Rattle.merging.proofs.States.{WellFormed, wf_start, step_move}
 use Rattle.merging.specs.inner.Runs.{Eligible}
 use Rattle.merging.proofs.Runs.{wf_runs, runs_more, eligible_sound, eligible_complete, eligible_sym, step_sym}
 use Rattle.merging.proofs.Runs.{differ, eligible_move}
-use Rattle.merging.proofs.Rebuilds.{stop_eligible, stop_refused}
+use Rattle.merging.proofs.Rebuilds.{stop_eligible, stop_refused, guided_accepted, guided_refused}
 use Rattle.merging.proofs.Demand3.{guided_own}
 use Rattle.rebuild_answers.specs.Operations.{proposals}
 use Rattle.rebuild_answers.proofs.RebuildRefusals.{many_proposals}
 use Rattle.state_arrays.specs.inner.Fits.{SubtreesFit, Given, TwoLabels}
 use Rattle.state_arrays.specs.inner.Merged.{MergeReady, Merged}
 use Rattle.state_arrays.specs.inner.StateArrays.{HoldsState}
-use Rattle.guided_rebuild.specs.inner.Proposals.{HoldsReached, HoldsSomeReached, Labels, Proposed, Stopped}
+use Rattle.guided_rebuild.specs.inner.Proposals.{HoldsReached, HoldsSomeReached, Labels, Proposed}
 use Rattle.guided_rebuild.specs.inner.Proposals.{StepsAccepted}
 use Rattle.state_arrays.proofs.Fits.{two_turned}
 use Rattle.state_arrays.proofs.StateArrays.{fits_eligible, eligible_fits, fair, two_merges, holds_step}
@@ -222,14 +225,31 @@ module _ {n s : ℕ} {table merges label m sizes : List ℕ} {k : ℕ}
         rest = rw (add-one k) (rw (sym told ∙ e, stop_at) at next);
       }
 
--- What that says of the guided rebuild.
-module _ {n s : ℕ} {table merges : List ℕ} {k : ℕ} (stopped : Stopped n s table merges k) where
-  pub guided_at : k < n - 1 → guided n s table (proposals merges) ≡ refused (Proposal k)
-  guided_at l = stop_refused n s table (proposals merges) k (stopped.refused l)
+-- Where a proposal is not accepted the guided rebuild is refused; where all are, it has our own rebuild's result.
+module _ (n s : ℕ) (table : List ℕ) (L : List (ℕ × ℕ)) where
+  pub guided_done : stop_at 0 n s table start L ≡ none → Ok tt ≡ outcome (guided n s table L)
+  unfolding outcome
+  guided_done h = rw (guided_accepted n s table L (stop_eligible n s table L h))
+
+  pub guided_at : {k : ℕ} → stop_at 0 n s table start L ≡ some k → Err (Proposal k) ≡ outcome (guided n s table L)
+  unfolding outcome
+  guided_at {k} h = rw (stop_refused n s table L k h)
 
   pub guided_whole :
-      IsLeafCount n → 0 < s → IsTable n table → length merges ≡ 2 * (n - 1) → n - 1 ≤ k
-      → guided n s table (proposals merges) ≡ rebuilt n s table
-  guided_whole count sp is_table long l =
-      guided_own n count s sp table is_table (proposals merges) (many_proposals n merges long)
-      (stop_eligible n s table (proposals merges) (stopped.accepted l))
+      IsLeafCount n → 0 < s → IsTable n table → length L ≡ n - 1 → outcome (guided n s table L) ≡ Ok tt
+      → guided n s table L ≡ rebuilt n s table
+  unfolding outcome
+  guided_whole count sp is_table many done = elim (bool? (each_eligible n s table L)) [
+    | inl each ↦ guided_own n count s sp table is_table L many each
+    | inr short ↦
+        let r = guided_refused n s table L short in
+        let wrong = rw r.2 at done in
+        absurd (let z : ◌≡◌ {A = ℕ} 0 1 = cc in omega arith)
+  ]
+
+-- an answer that is refused leaves the buffer as it was
+pub refused_unwritten :
+    {e : Refusal} (a : Answer (List ℕ)) (out : List ℕ) → outcome a ≡ Err e → out ≡ written a out
+unfolding outcome written
+refused_unwritten (accepted l) out h = absurd (let z : ◌≡◌ {A = ℕ} 0 1 = cc in omega arith)
+refused_unwritten (refused r) out h = refl

@@ -1,125 +1,119 @@
 // The merges of our own rebuild: which pairs are merged, in which order, and the rows of the listing that this makes.
-// The table is lent as cells, `table`, or in bytes, `packed`. For the crates of the rebuilds.
+// For the crates of the rebuilds.
 #![tactic(auto)]
 
-ghost use Rattle.std.specs.Prelude.{◌≡◌, ◌+◌, ◌*◌, ◌<◌, ◌≤◌, get_or, set};
+ghost use Rattle.std.specs.Prelude.{◌≡◌, ◌+◌, ◌*◌, ◌<◌, ◌≤◌, get_or, set, replicate};
+ghost use Rattle.base.specs.Lists.{filled};
 ghost use Rattle.limits.specs.Limits.{most_leaves};
-ghost use Rattle.eligible_pairs.specs.inner.Lent.{lent_table};
 ghost use Rattle.state_arrays.specs.inner.Fits.{counts_scale, Given, SizesFit};
 ghost use Rattle.leaf_merges.specs.inner.Partners.{Partner};
-ghost use Rattle.leaf_merges.specs.inner.LeafMerges.{LeavesMerged, AllMerged};
+ghost use Rattle.leaf_merges.specs.inner.LeafMerges.{LeavesMerged};
 
-use eligible_pairs::pair_fits;
+use eligible_pairs::{Table, pair_fits};
 use limits::{LEAF_COUNTS, MOST_LEAVES};
-use numbers::index_of_u32;
-use state_arrays::merge;
+use state_arrays::Arrays;
 
-// The first label after `a` whose subtree may be merged with the subtree `a`, or n.
-fn partner(
+// The rows of a listing, one for each merge that was made, and the number of each label's subtree.
+#[derive(Clone, Copy)]
+pub struct Rows {
+    pub names: [u32; MOST_LEAVES],
+    pub rows: [u16; 2 * MOST_LEAVES],
+    pub made: usize,
+}
+
+impl Rows {
+    // No rows: each of n leaves has its own number. For the crates above.
+    pub fn none(n: usize) -> Self
+        requires { n ≤ most_leaves }
+        ensures names { result.names ≡ filled n (λ k. k) (replicate most_leaves 0) }
+        ensures rows { result.rows ≡ replicate (2 * most_leaves) 0 }
+        ensures made { result.made ≡ 0 }
+    {
+        let mut names = [0; MOST_LEAVES];
+        numbers::own_numbers(n, &mut names);
+        Rows {
+            names,
+            rows: [0; 2 * MOST_LEAVES],
+            made: 0,
+        }
+    }
+
+    // The row of the next node, n + made: its children are the subtrees `a` and `b`, and the node is now the number of
+    // `a`.
+    fn add(&mut self, n: usize, a: usize, b: usize)
+        requires { (n ≤ most_leaves) × (a < n) × (b < n) × (self.old.made < most_leaves)
+            × (get_or self.old.names a 0 < 2 * most_leaves) × (get_or self.old.names b 0 < 2 * most_leaves) }
+        ensures names { self.new.names ≡ set self.old.names a (n + self.old.made) }
+        ensures rows { self.new.rows
+            ≡ set (set self.old.rows (2 * self.old.made) (get_or self.old.names a 0))
+            (2 * self.old.made + 1) (get_or self.old.names b 0) }
+        ensures made { self.new.made ≡ self.old.made + 1 }
+    {
+        self.rows[2 * self.made] = self.names[a] as u16;
+        self.rows[2 * self.made + 1] = self.names[b] as u16;
+        self.names[a] = (n + self.made) as u32;
+        self.made += 1;
+    }
+}
+
+// The first label after `a` whose subtree may be merged with the subtree `a`.
+fn partner<T: Table>(
     n: usize,
-    table: &[u32],
-    packed: &[u8],
-    label: &[u32; MOST_LEAVES],
-    m: &[u32; MOST_LEAVES],
-    sizes: &[usize; MOST_LEAVES],
+    table: &T,
+    arrays: &Arrays,
     p: &[u32; LEAF_COUNTS],
     a: usize,
-) -> usize
-    requires { SizesFit n (lent_table n table.now packed.now) label.now m.now sizes.now p.now
-        × (get_or label.now a 0 ≡ a) × (a < n) }
-    ensures { Partner n (lent_table n table.now packed.now)
-        label.now m.now sizes.now p.now a result }
+) -> Option<usize>
+    requires { SizesFit n (T.cells table.now n) arrays.now.label arrays.now.m arrays.now.sizes p.now
+        × (get_or arrays.now.label a 0 ≡ a) × (a < n) }
+    ensures { Partner n (T.cells table.now n) arrays.now.label arrays.now.m arrays.now.sizes p.now a result }
 {
-    let mut b: usize = a + 1;
-    while b < n {
-        if index_of_u32(label[b]) == b {
-            if pair_fits(n, table, packed, label, m, sizes, p, a, b) {
-                return b;
-            }
+    for b in a + 1..n {
+        if arrays.label[b] as usize == b && pair_fits(n, table, arrays, p, a, b) {
+            return Some(b);
         }
-        b += 1;
     }
-    n
+    None
 }
 
-// Row r, of node n + r: its children are the subtrees `a` and `b`, and the node is now the number of `a`.
-fn add_row(
+// The subtree of leaf t is merged with one after the other of those kept, until none is left that may be.
+fn merge_leaf<T: Table>(
     n: usize,
-    names: &mut [u32; MOST_LEAVES],
-    rows: &mut [u16; 2 * MOST_LEAVES],
-    a: usize,
-    b: usize,
-    r: usize,
-)
-    requires { (n ≤ most_leaves) × (a < n) × (b < n) × (r < most_leaves)
-        × (get_or names.old a 0 < 2 * most_leaves) × (get_or names.old b 0 < 2 * most_leaves) }
-    ensures { (names.new ≡ set names.old a (n + r))
-        × (rows.new
-        ≡ set (set rows.old (2 * r) (get_or names.old a 0))
-        (2 * r + 1) (get_or names.old b 0)) }
-{
-    rows[2 * r] = names[a] as u16;
-    rows[2 * r + 1] = names[b] as u16;
-    names[a] = (n + r) as u32;
-}
-
-// The subtree of leaf t is merged with one after the other of those kept, until none is left that may be. The number of
-// rows afterwards.
-fn merge_leaf(
-    n: usize,
-    table: &[u32],
-    packed: &[u8],
-    label: &mut [u32; MOST_LEAVES],
-    m: &mut [u32; MOST_LEAVES],
-    sizes: &mut [usize; MOST_LEAVES],
-    names: &mut [u32; MOST_LEAVES],
-    rows: &mut [u16; 2 * MOST_LEAVES],
+    table: &T,
+    arrays: &mut Arrays,
+    rows: &mut Rows,
     p: &[u32; LEAF_COUNTS],
     t: usize,
-    made: usize,
-) -> usize
-    requires { Given n (counts_scale p.now) (lent_table n table.now packed.now) p.now × (0 < t) × (t < n)
-        × LeavesMerged n (counts_scale p.now) (lent_table n table.now packed.now)
-        label.old m.old sizes.old names.old rows.old made (t + 1) }
-    ensures { LeavesMerged n (counts_scale p.now)
-        (lent_table n table.now packed.now)
-        label.new m.new sizes.new names.new rows.new result t }
+)
+    requires { Given n (counts_scale p.now) (T.cells table.now n) p.now × (0 < t) × (t < n)
+        × LeavesMerged n (counts_scale p.now) (T.cells table.now n) arrays.old.label arrays.old.m arrays.old.sizes
+        rows.old.names rows.old.rows rows.old.made (t + 1) }
+    ensures { LeavesMerged n (counts_scale p.now) (T.cells table.now n)
+        arrays.new.label arrays.new.m arrays.new.sizes rows.new.names rows.new.rows rows.new.made t }
 {
-    let mut r: usize = made;
-    let mut k: usize = partner(n, table, packed, label, m, sizes, p, t);
-    while k < n {
-        merge(n, label, m, sizes, p, t, k);
-        add_row(n, names, rows, t, k, r);
-        r += 1;
-        k = partner(n, table, packed, label, m, sizes, p, t);
+    // A while: how many merges there are shows as they are made.
+    while let Some(k) = partner(n, table, arrays, p, t) {
+        arrays.merge(n, p, t, k);
+        rows.add(n, t, k);
     }
-    r
 }
 
 // The subtree of every leaf from n - 1 down to 1 is merged as far as it may be, with a row for each merge. Leaf 0 is
 // left alone. For the crates above.
-pub fn merge_leaves(
+pub fn merge_leaves<T: Table>(
     n: usize,
-    table: &[u32],
-    packed: &[u8],
-    label: &mut [u32; MOST_LEAVES],
-    m: &mut [u32; MOST_LEAVES],
-    sizes: &mut [usize; MOST_LEAVES],
-    names: &mut [u32; MOST_LEAVES],
-    rows: &mut [u16; 2 * MOST_LEAVES],
+    table: &T,
+    arrays: &mut Arrays,
+    rows: &mut Rows,
     p: &[u32; LEAF_COUNTS],
 )
-    requires { Given n (counts_scale p.now) (lent_table n table.now packed.now) p.now
-        × LeavesMerged n (counts_scale p.now) (lent_table n table.now packed.now)
-        label.old m.old sizes.old names.old rows.old 0 n }
-    ensures { AllMerged n (counts_scale p.now)
-        (lent_table n table.now packed.now)
-        label.new m.new sizes.new names.new rows.new }
+    requires { Given n (counts_scale p.now) (T.cells table.now n) p.now
+        × LeavesMerged n (counts_scale p.now) (T.cells table.now n) arrays.old.label arrays.old.m arrays.old.sizes
+        rows.old.names rows.old.rows rows.old.made n }
+    ensures { LeavesMerged n (counts_scale p.now) (T.cells table.now n)
+        arrays.new.label arrays.new.m arrays.new.sizes rows.new.names rows.new.rows rows.new.made 1 }
 {
-    let mut r: usize = 0;
-    let mut t: usize = n;
-    while 1 < t {
-        t -= 1;
-        r = merge_leaf(n, table, packed, label, m, sizes, names, rows, p, t, r);
+    for t in (1..n).rev() {
+        merge_leaf(n, table, arrays, rows, p, t);
     }
 }

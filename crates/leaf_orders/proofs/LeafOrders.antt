@@ -11,7 +11,18 @@ use Rattle.trees.specs.Trees.{Tree, leaf, node, leaves, size}
 use Rattle.trees.proofs.Trees.{leaves_node, leaf_has, leaf_eq, size_leaf, size_node, apart_sym, Distinct, Within}
 use Rattle.trees.proofs.Trees.{within_left, within_right}
 use Rattle.trees.proofs.BranchedPairs.{inner_sum, inner_sum_leaf, inner_sum_left, inner_sum_right}
-use Rattle.leaf_orders.specs.inner.Orders.{depth, LaidOut}
+use Rattle.leaf_orders.specs.inner.Orders.{depth}
+
+-- a number's place, the pairs that branch off above it, and the depth before its first leaf are p, u and w
+abbrev pub PlacedAt : (place above before : ℕ → ℕ) (c p u w : ℕ) → Type 0
+PlacedAt place above before c p u w = (place c ≡ p) × (above c ≡ u) × (before c ≡ w)
+
+-- the leaves of a subtree follow one another from place p on
+abbrev pub LaidOut : (n : ℕ) (place above before : ℕ → ℕ) → Tree → (p u w : ℕ) → Type 0
+LaidOut n place above before (leaf k) p u w = PlacedAt place above before k p u w
+LaidOut n place above before (node A B) p u w =
+    LaidOut n place above before A p (u + P (size B)) w
+    × LaidOut n place above before B (p + size A) (u + P (size A)) (depth n A B u)
 
 module _ (n : ℕ) (place above before : ℕ → ℕ) where
   -- the leaves of a subtree stand at its places
@@ -81,13 +92,15 @@ module _ (n : ℕ) (place above before : ℕ → ℕ) where
         (omega (arith, above_in B (p + size A) (u + P (size A)) (depth n A B u) h.1 d.1 k b))
   ]
 
--- the depths before the leaves may be given in another way
+-- the places of the leaves, and what stands beside them, may be given in another way
 pub laid_same :
-    (n : ℕ) (place above before before' : ℕ → ℕ) → ((k : ℕ) → k < n → before' k ≡ before k) → (Z : Tree) (p u w : ℕ)
-    → Within n Z → LaidOut n place above before Z p u w → LaidOut n place above before' Z p u w
-laid_same n place above before before' e (leaf x) p u w s h = (h.0, h.1, e x (s x (leaf_has x)) ∙ h.2)
-laid_same n place above before before' e (node A B) p u w s h = (
-  laid_same n place above before before' e A p (u + P (size B)) w (within_left n A B s) h.0,
-  laid_same n place above before before' e B (p + size A) (u + P (size A)) (depth n A B u) (within_right n A B s)
-      h.1,
+    (n : ℕ) (place above before place' above' before' : ℕ → ℕ)
+    → ((k : ℕ) → k < n → PlacedAt place' above' before' k (place k) (above k) (before k)) → (Z : Tree) (p u w : ℕ)
+    → Within n Z → LaidOut n place above before Z p u w → LaidOut n place' above' before' Z p u w
+laid_same n place above before place' above' before' e (leaf x) p u w s h =
+    let same = e x (s x (leaf_has x)) in (same.0 ∙ h.0, same.1 ∙ h.1, same.2 ∙ h.2)
+laid_same n place above before place' above' before' e (node A B) p u w s h = (
+  laid_same n place above before place' above' before' e A p (u + P (size B)) w (within_left n A B s) h.0,
+  laid_same n place above before place' above' before' e B (p + size A) (u + P (size A)) (depth n A B u)
+      (within_right n A B s) h.1,
 )

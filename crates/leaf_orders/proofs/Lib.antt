@@ -1,4 +1,5 @@
-pub mod LeafOrders
-pub mod Planned
-pub mod Rows
+mod LeafOrders
+mod Meeting
+mod Planned
+mod Rows
 mod Placing

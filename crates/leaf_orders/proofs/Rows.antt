@@ -18,7 +18,9 @@ use Rattle.listings.specs.Rows.{row_at}
 use Rattle.listings.proofs.Rows.{RowOf, row_read}
 use Rattle.listings.proofs.Entries.{Seen, node_made}
 use Rattle.listings.specs.inner.Children.{row_first, row_second}
-use Rattle.leaf_orders.specs.inner.Orders.{most_sum, whole, depth, Prepared, ChildrenTold}
+use Rattle.leaf_orders.specs.declared.Place.{Place}
+use Rattle.leaf_orders.specs.inner.LeafOrders.{most_sum, whole}
+use Rattle.leaf_orders.specs.inner.Orders.{depth, Prepared, Fits, ChildrenTold}
 
 pub record Row (n : ℕ) (l : List ℕ) (c : ℕ) : Type 0 where
   pub first : row_first n l c < c
@@ -53,9 +55,9 @@ sizes_add {n} {l} w sizes seen = node_made size 0 n l w sizes _ seen (λ x y. rw
 pub pairs_small : (k : ℕ) → k ≤ most_leaves → P k ≤ most_sum
 pairs_small k l = omega (arith, P_mono k most_leaves l, P_most)
 
--- A number c of a node, above which `above` pairs branch off.
-module _ (n : ℕ) (l sizes : List ℕ) (c above : ℕ) (g : Prepared n l sizes) (low : n ≤ c) (high : c < 2 * n - 2)
-    (bound : above + P (size (subtree_at n l c)) ≤ P n) where
+-- A number c of a node, which stands at p.
+module _ (n : ℕ) (l sizes : List ℕ) (c : ℕ) (p : Place) (g : Prepared n l sizes) (low : n ≤ c) (high : c < 2 * n - 2)
+    (fits : Fits n l c p) where
   abbrev A : Tree
   A = subtree_at n l (row_first n l c)
 
@@ -68,7 +70,8 @@ module _ (n : ℕ) (l sizes : List ℕ) (c above : ℕ) (g : Prepared n l sizes)
     pub first_size : x ≡ size A
     pub second_size : y ≡ size B
     pub within : x + y ≤ n
-    pub branches : above + (P x + P y) ≤ P n
+    pub branches : p.above + (P x + P y) ≤ P n
+    pub room : p.place + (x + y) ≤ n
     pub rest : P (n - (x + y)) ≤ P n
 
   pub sizes_read :
@@ -78,7 +81,8 @@ module _ (n : ℕ) (l sizes : List ℕ) (c above : ℕ) (g : Prepared n l sizes)
     first_size = x_is;
     second_size = y_is;
     within = omega (arith, total, x_is, y_is, size_le n l c g.leaf_count g.listing high);
-    branches = rw (x_is, y_is) (omega (arith, ap P total, bound, P_le (size A) (size B)));
+    branches = rw (x_is, y_is) (omega (arith, ap P total, fits.1, P_le (size A) (size B)));
+    room = omega (arith, total, x_is, y_is, fits.0);
     rest = P_mono (n - (get_or sizes r.first 0 + get_or sizes r.second 0)) n (omega arith);
   }
     where
@@ -97,13 +101,13 @@ module _ (n : ℕ) (l sizes : List ℕ) (c above : ℕ) (g : Prepared n l sizes)
           rw (rw (here, row.first_is, row.second_is) at row.joins, size_node)
 
   pub told :
-      {r : listings.Row} {x y u v w : ℕ} → SizesRead r x y → u ≡ above + P y → v ≡ above + P x
-      → w ≡ P (n - (x + y)) + (whole - (u + v)) → ChildrenTold n l c above r.first x u r.second v w
+      {r : listings.Row} {x y u v w : ℕ} → SizesRead r x y → u ≡ p.above + P y → v ≡ p.above + P x
+      → w ≡ P (n - (x + y)) + (whole - (u + v))
+      → ChildrenTold n l c p r.first (record { place = p.place; above = u; before = p.before }) r.second
+      (record { place = p.place + x; above = v; before = w })
   told s eu ev ew = record {
     first_is = s.row.first_is;
     second_is = s.row.second_is;
-    width_is = s.first_size;
-    left_is = rw (← s.second_size) eu;
-    right_is = rw (← s.first_size) ev;
-    depth_is = unfold depth in rw (← s.first_size, ← s.second_size, ← eu, ← ev) ew;
+    left_is = rw (eu, s.second_size) refl;
+    right_is = unfold depth in rw (ew, eu, ev, s.first_size, s.second_size) refl;
   }

@@ -1,1 +1,2 @@
+pub mod LeafOrders
 pub mod Orders

@@ -1,4 +1,3 @@
 mod LeastDepths
-mod Meeting
 pub mod RowCounts
 pub mod Rows

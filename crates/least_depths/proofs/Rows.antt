@@ -2,7 +2,7 @@
 -- one cell more of it; and one row more of the rows in the order of the places.
 use mathlib.Core.Path.{◌≡◌, refl, sym, ◌∙◌}
 use mathlib.Core.List.{List}
-use Prim.Native.Nat.{ℕ, ◌+◌, ◌-◌, ◌*◌, ◌/◌, ◌≤◌, ◌<◌}
+use Prim.Native.Nat.{ℕ, ◌+◌, ◌*◌, ◌/◌, ◌≤◌, ◌<◌}
 use native.Mathlib.Nat.{add-zero}
 use native.Mathlib.Omega.{arith}
 use native.Mathlib.Decide.{ℕ_discrete}
@@ -11,20 +11,13 @@ use Rattle.base.proofs.Lists.{place}
 use Rattle.base.proofs.Filling.{cell_more}
 use Rattle.limits.specs.Limits.{most_leaves, most_cells}
 use Rattle.limits.proofs.TablePlaces.{place_small}
-use Rattle.leaf_orders.specs.inner.Orders.{whole, at}
-use Rattle.least_depths.specs.inner.Depths.{most_depth, TopsFrom, TopsBefore}
-use Rattle.least_depths.specs.inner.Rows.{TableRowFits, RowWritten, RowsHold}
+use Rattle.leaf_orders.specs.inner.LeafOrders.{at}
+use Rattle.least_depths.specs.inner.Rows.{RowWritten, RowsHold}
 
-module _ {n i base room : ℕ} {aboves tops : List ℕ} (fit : TableRowFits n i base aboves tops room) (j : ℕ)
-    (l : j < n) where
-  -- where cell j of the row stands
-  pub cell_place : (i * n + j < most_cells) × (i * n + j < room)
-  cell_place = (place_small n i j fit.few fit.row l, omega (arith, place n i j fit.row l, fit.enough))
-
-  -- what `count_at` asks
-  pub count_asked :
-      (j < most_leaves) × (whole ≤ base + at aboves j + at tops j) × (base + at aboves j + at tops j ≤ most_depth)
-  count_asked = (omega (arith, fit.few), fit.found.covered j l, fit.found.fits j l)
+-- where cell j of row i stands
+pub cell_place :
+    {n i j room : ℕ} → n ≤ most_leaves → i < n → j < n → n * n ≤ room → (i * n + j < most_cells) × (i * n + j < room)
+cell_place {n} {i} {j} few li lj enough = (place_small n i j few li lj, omega (arith, place n i j li lj))
 
 module _ {A : Type 0} {n i : ℕ} {value : ℕ → A} where
   -- no cell, one more, and all
@@ -43,22 +36,14 @@ module _ {A : Type 0} {n i : ℕ} {value : ℕ → A} where
       {before out : List A} {j : ℕ} → j ≡ n → RowWritten n i value before out j → RowWritten n i value before out n
   row_whole e w = rw e at w
 
--- no row of those in the order of the places, and one more: what is kept of the last, and what the rows hold
-module _ {n : ℕ} {aboves order depths tops : List ℕ} where
-  pub tops_none : length tops ≡ most_leaves → TopsBefore n aboves order depths 0 tops
-  tops_none long = record { long = long; last = λ l. absurd (omega arith) }
-
-  pub tops_more : {p : ℕ} → TopsFrom n aboves order depths p tops → TopsBefore n aboves order depths (p + 1) tops
-  tops_more {p} t =
-      let this : p + 1 - 1 ≡ p = omega arith in record { long = t.long; last = λ l. rw this t }
-
-module _ {n : ℕ} {order cells : List ℕ} {f : ℕ → ℕ} where
-  pub rows_none : RowsHold n order f cells 0
+-- no row of those in the order of the places, and one more
+module _ {n : ℕ} {leaves cells : List ℕ} {f : ℕ → ℕ} where
+  pub rows_none : RowsHold n leaves f cells 0
   rows_none = record { right = λ k q l e. absurd (omega arith) }
 
   pub rows_more :
-      {p : ℕ} → RowsHold n order f cells p → ((k : ℕ) → k / n ≡ at order p → at cells k ≡ f k)
-      → RowsHold n order f cells (p + 1)
+      {p : ℕ} → RowsHold n leaves f cells p → ((k : ℕ) → k / n ≡ at leaves p → at cells k ≡ f k)
+      → RowsHold n leaves f cells (p + 1)
   rows_more {p = p} old new = record {
     right = λ k q l e. elim (ℕ_discrete q p) [
       | yes s ↦ new k (rw s at e)

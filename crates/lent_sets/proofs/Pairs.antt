@@ -1,26 +1,38 @@
--- Two lent sets of some lengths: what is refused where one length is wrong, and that nothing is where both are right.
-use mathlib.Core.Path.{◌≡◌, ap, sym, ◌∙◌}
-use mathlib.Core.Logic.{◌≢◌}
-use Prim.Native.Nat.{ℕ}
+-- Two lent sets and the room for a third: what is refused where one does not fit, and that nothing is where all fit.
+use mathlib.Core.Path.{◌≡◌, ◌∙◌}
+use mathlib.Core.Option.{none, some}
+use Prim.Native.Nat.{ℕ, ◌≤◌, ◌<◌}
 use Rattle.limits.specs.Limits.{set_bytes}
-use Rattle.refusals.specs.declared.Outcome.{Outcome}
-use Rattle.refusals.specs.declared.Outcome.TheVariants.{Done, Refused}
-use Rattle.refusals.specs.declared.Refusal.TheVariants.{InputLength}
-use Rattle.refusals.specs.Refusals.{outcome_of}
+use Rattle.refusals.specs.declared.Refusal.{Refusal}
+use Rattle.refusals.specs.declared.Refusal.TheVariants.{OutputRoom}
 use Rattle.refusals.proofs.Answers.{judged_stops, judged_passes, judged_alone}
-use Rattle.checks.proofs.Sizes.{length_stops, length_passes}
-use Rattle.lent_sets.specs.Operations.{pair_refusal}
+use Rattle.checks.specs.Sizes.{length_refusal}
+use Rattle.checks.proofs.Sizes.{room_stops, room_passes}
+use Rattle.lent_sets.specs.Operations.{pair_refusal, sets_refusal}
 
-pub a_is_off : (a b : ℕ) → a ≢ set_bytes → Refused InputLength ≡ outcome_of (pair_refusal a b)
-unfolding pair_refusal outcome_of
-a_is_off a b d = ap outcome_of (sym (judged_stops _ (length_stops _ _ d)))
+module _ (a b : ℕ) where
+  pub first_off : {r : Refusal} → length_refusal set_bytes a ≡ some r → pair_refusal a b ≡ some r
+  unfolding pair_refusal
+  first_off h = judged_stops _ h
 
-pub b_is_off : (a b : ℕ) → a ≡ set_bytes → b ≢ set_bytes → Refused InputLength ≡ outcome_of (pair_refusal a b)
-unfolding pair_refusal outcome_of
-b_is_off a b e d =
-    ap outcome_of (sym (judged_passes _ (length_passes _ _ e) ∙ judged_stops _ (length_stops _ _ d)))
+  module _ (first : length_refusal set_bytes a ≡ none) where
+    pub second_off : {r : Refusal} → length_refusal set_bytes b ≡ some r → pair_refusal a b ≡ some r
+    unfolding pair_refusal
+    second_off h = judged_passes _ first ∙ judged_stops _ h
 
-pub both_fit : (a b : ℕ) → a ≡ set_bytes → b ≡ set_bytes → Done ≡ outcome_of (pair_refusal a b)
-unfolding pair_refusal outcome_of
-both_fit a b e e' =
-    ap outcome_of (sym (judged_passes _ (length_passes _ _ e) ∙ judged_alone _ ∙ length_passes _ _ e'))
+    pub both_fit : length_refusal set_bytes b ≡ none → pair_refusal a b ≡ none
+    unfolding pair_refusal
+    both_fit h = judged_passes _ first ∙ judged_alone _ ∙ h
+
+  module _ (room : ℕ) where
+    pub pair_off : {r : Refusal} → pair_refusal a b ≡ some r → sets_refusal a b room ≡ some r
+    unfolding sets_refusal
+    pair_off h = judged_stops _ h
+
+    pub room_short : pair_refusal a b ≡ none → room < set_bytes → sets_refusal a b room ≡ some OutputRoom
+    unfolding sets_refusal
+    room_short h l = judged_passes _ h ∙ judged_stops _ (room_stops _ _ l)
+
+    pub all_fit : pair_refusal a b ≡ none → set_bytes ≤ room → sets_refusal a b room ≡ none
+    unfolding sets_refusal
+    all_fit h l = judged_passes _ h ∙ judged_alone _ ∙ room_passes _ _ l

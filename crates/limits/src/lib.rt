@@ -37,28 +37,29 @@ pub const MOST_POLLED: usize = 32;
 pub const MOST_POLL_CELLS: usize = MOST_POLLED * MOST_POLLED;
 
 // What a table counts: the quartets of a tree, or the records of a poll.
-#[derive(Clone, Copy)]
+#[derive(Clone, Copy, Debug, PartialEq, Eq)]
 pub enum Kind {
     Counts,
     Poll,
 }
 
-// The scale of a table of this kind: what a tree's count is multiplied by.
-pub fn scale_of(kind: Kind) -> u32
-    ensures { result ≡ scale_of kind }
-{
-    match kind {
-        Kind::Counts => 1,
-        Kind::Poll => 6,
+impl Kind {
+    // The scale of a table of this kind: what a tree's count is multiplied by.
+    pub fn scale(self) -> u32
+        ensures { result ≡ scale_of self }
+    {
+        match self {
+            Kind::Counts => 1,
+            Kind::Poll => 6,
+        }
     }
 }
 
 // The kind that a caller from C names: 0 for counts, any other number for a poll's.
-pub fn kind_of(poll: u32) -> Kind
-    ensures { result ≡ kind_of poll }
-{
-    if poll == 0 {
-        return Kind::Counts;
+impl From<u32> for Kind {
+    ghost from_gives = { λ poll kind. kind ≡ kind_of poll };
+
+    fn from(poll: u32) -> Kind {
+        if poll == 0 { Kind::Counts } else { Kind::Poll }
     }
-    Kind::Poll
 }

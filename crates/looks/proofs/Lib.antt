@@ -1,4 +1,3 @@
 mod Refusals
 mod GraftedListings
 mod AllEdges
-pub mod LookAnswers

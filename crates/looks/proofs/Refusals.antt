@@ -1,4 +1,5 @@
 -- What is judged of a look, one go after the other: the sizes; what is judged of a graft; the cells of the new table.
+use Rattle.std.specs.Prelude.{Ok, Err}
 use mathlib.Core.Path.{◌≡◌, ap, sym, ◌∙◌}
 use mathlib.Core.Logic.{◌≢◌}
 use mathlib.Core.Bool.{false}
@@ -14,11 +15,9 @@ use Rattle.limits.specs.Limits.{IsLeafCount, IsCountOf, most_numbers, most_cells
 use Rattle.limits.proofs.TableKinds.{leaf_count_of}
 use Rattle.refusals.specs.declared.Refusal.{Refusal}
 use Rattle.refusals.specs.declared.Refusal.TheVariants.{LeafCount as Count, InputLength, OutputRoom}
-use Rattle.refusals.specs.declared.Outcome.{Outcome}
-use Rattle.refusals.specs.declared.Outcome.TheVariants.{Done, Refused}
-use Rattle.refusals.specs.Refusals.{judged, outcome_of}
+use Rattle.refusals.specs.Refusals.{Outcome, judged, outcome_of}
 use Rattle.refusals.proofs.Answers.{judged_stops, judged_passes, judged_alone, judged_nest, judged_none}
-use Rattle.refusals.proofs.Answers.{go_stops, go_passes}
+use Rattle.refusals.proofs.Answers.{HandsOn, go_stops, go_passes}
 use Rattle.checks.specs.Sizes.{right_count, count_refusal, count_refusal_of, length_refusal, room_refusal}
 use Rattle.checks.proofs.Sizes.{count_stops, count_passes, count_right, length_stops, length_passes, length_right}
 use Rattle.checks.proofs.Sizes.{room_stops, room_passes, room_right}
@@ -37,12 +36,12 @@ module _ (kind : Kind) (n numbers cells new_cells due room : ℕ) where
   abbrev sizes : Option Refusal
   sizes = look_sizes_refusal kind n numbers cells new_cells due room
 
-  pub count_told : right_count Counts n ≡ false → Refused Count ≡ outcome_of sizes
+  pub count_told : right_count Counts n ≡ false → Err Count ≡ outcome_of sizes
   unfolding look_sizes_refusal outcome_of
   count_told h = ap outcome_of (sym (judged_stops _ (count_stops Counts n h)))
 
   module _ (c : IsLeafCount n) where
-    pub new_count_told : right_count kind (n + 1) ≡ false → Refused Count ≡ outcome_of sizes
+    pub new_count_told : right_count kind (n + 1) ≡ false → Err Count ≡ outcome_of sizes
     unfolding look_sizes_refusal outcome_of
     new_count_told h =
         ap outcome_of (sym (judged_passes _ (count_passes Counts n c) ∙ judged_stops _ (count_stops kind (n + 1) h)))
@@ -57,12 +56,12 @@ module _ (kind : Kind) (n numbers cells new_cells due room : ℕ) where
       unfolding look_sizes_refusal
       lengths_next = judged_passes _ (count_passes Counts n c) ∙ judged_passes _ (count_passes kind (n + 1) d)
 
-      pub numbers_told : numbers ≢ 2 * (n - 2) → Refused InputLength ≡ outcome_of sizes
+      pub numbers_told : numbers ≢ 2 * (n - 2) → Err InputLength ≡ outcome_of sizes
       unfolding outcome_of
       numbers_told h = ap outcome_of (sym (lengths_next ∙ judged_stops _ (length_stops _ _ h)))
 
       module _ (e : numbers ≡ 2 * (n - 2)) where
-        pub cells_told : cells ≢ n * n → Refused InputLength ≡ outcome_of sizes
+        pub cells_told : cells ≢ n * n → Err InputLength ≡ outcome_of sizes
         unfolding outcome_of
         cells_told h =
             ap outcome_of
@@ -74,7 +73,7 @@ module _ (kind : Kind) (n numbers cells new_cells due room : ℕ) where
           new_cells_next =
               lengths_next ∙ judged_passes _ (length_passes _ _ e) ∙ judged_passes _ (length_passes _ _ f)
 
-          pub new_cells_told : new_cells ≢ (n + 1) * (n + 1) → Refused InputLength ≡ outcome_of sizes
+          pub new_cells_told : new_cells ≢ (n + 1) * (n + 1) → Err InputLength ≡ outcome_of sizes
           unfolding outcome_of
           new_cells_told h = ap outcome_of (sym (new_cells_next ∙ judged_stops _ (length_stops _ _ h)))
 
@@ -82,11 +81,11 @@ module _ (kind : Kind) (n numbers cells new_cells due room : ℕ) where
             room_next : sizes ≡ room_refusal due room
             room_next = new_cells_next ∙ judged_passes _ (length_passes _ _ g) ∙ judged_alone _
 
-            pub room_told : room < due → Refused OutputRoom ≡ outcome_of sizes
+            pub room_told : room < due → Err OutputRoom ≡ outcome_of sizes
             unfolding outcome_of
             room_told h = ap outcome_of (sym (room_next ∙ room_stops _ _ h))
 
-            pub sizes_told : due ≤ room → Done ≡ outcome_of sizes
+            pub sizes_told : due ≤ room → Ok tt ≡ outcome_of sizes
             unfolding outcome_of
             sizes_told h = ap outcome_of (sym (room_next ∙ room_passes _ _ h))
 
@@ -102,10 +101,11 @@ module _ (kind : Kind) (n : ℕ) (l t u : List ℕ) (e due room : ℕ) where
   abbrev graft : Option Refusal
   graft = change_refusal n l t (Graft e) most_numbers most_cells
 
-  pub sizes_stop : {q : Outcome} {r : Refusal} → q ≡ outcome_of sized → q ≡ Refused r → q ≡ outcome_of whole
+  pub sizes_stop :
+      {q r : Outcome} {x : Refusal} → q ≡ outcome_of sized → q ≡ Err x → HandsOn r x → r ≡ outcome_of whole
   unfolding look_refusal look_sizes_refusal
-  sizes_stop told h =
-      go_stops sized told _ h
+  sizes_stop told h p =
+      go_stops sized told _ h p
       ∙ ap outcome_of (sym (judged_nest
       (count_refusal n ∷ count_refusal_of kind (n + 1) ∷ length_refusal (2 * (n - 2)) (length l)
       ∷ length_refusal (n * n) (length t) ∷ length_refusal ((n + 1) * (n + 1)) (length u) ∷ room_refusal due room ∷ [])
@@ -139,12 +139,13 @@ module _ (kind : Kind) (n : ℕ) (l t u : List ℕ) (e due room : ℕ) where
         look_refused_with_graft kind n l t u e due room right most_numbers most_cells (omega (arith, c))
         (mul-le-mul c.1 c.1)
 
-    pub graft_stops : {q : Outcome} {r : Refusal} → q ≡ outcome_of graft → q ≡ Refused r → q ≡ outcome_of whole
-    graft_stops told h = go_stops graft told _ h ∙ ap outcome_of (sym as_graft)
+    pub graft_stops :
+        {q r : Outcome} {x : Refusal} → q ≡ outcome_of graft → q ≡ Err x → HandsOn r x → r ≡ outcome_of whole
+    graft_stops told h p = go_stops graft told _ h p ∙ ap outcome_of (sym as_graft)
 
     -- of what is judged of a table alone only 4 and 5 are left to arise
     pub cells_decide :
-        {q r : Outcome} → q ≡ outcome_of graft → q ≡ Done → r ≡ outcome_of (table_refusal kind (n + 1) u 0 0)
+        {q r : Outcome} → q ≡ outcome_of graft → q ≡ Ok tt → r ≡ outcome_of (table_refusal kind (n + 1) u 0 0)
         → r ≡ outcome_of whole
     cells_decide told h f =
         let left = cells_left kind (n + 1) u 0 0 right.new_count right.new_cells (omega arith) in

@@ -5,29 +5,20 @@
 ghost use Rattle.std.specs.Prelude.{◌≡◌, true, ◌+◌, ◌-◌, ◌*◌, ◌≤◌, length};
 ghost use Rattle.limits.specs.Limits.{IsLeafCount, IsCountOf};
 ghost use Rattle.base.specs.Lists.{filled};
-ghost use Rattle.refusals.specs.Refusals.{outcome_of, outcome, written};
+ghost use Rattle.refusals.specs.Refusals.{outcome_of, outcome, returned, written};
 ghost use Rattle.trees.specs.Listings.{KeepsRules, tree_of};
 ghost use Rattle.trees.specs.Tables.{table_of, IsTable};
 ghost use Rattle.grafted_trees.specs.Grafts.{names_edge};
 ghost use Rattle.look_answers.specs.Operations.{look_refusal, look_total, look_answer, look_all_answer};
-ghost use Rattle.looks.specs.Outcomes.{look_outcome};
 ghost use Rattle.looks.specs.inner.Refusals.{look_sizes_refusal};
-ghost use Rattle.looks.specs.inner.Replies.{told_look};
 
 use change_answers::Change;
 use edge_totals::write_totals;
 use grafted_rows::graft_rows;
 use limits::{Kind, MOST_CELLS, MOST_NUMBERS};
-use refusals::{Outcome, Refusal};
+use refusals::Refusal;
 use standard_listings::standard_rows;
 use state_arrays::scaled_counts;
-
-// What a look answers: the total gap, or why there is none.
-#[derive(Clone, Copy)]
-pub enum LookOutcome {
-    Total(u64),
-    Refused(Refusal),
-}
 
 // The sizes of a listing and a table of n leaves, of a new table of n + 1, and of a result of `due` numbers: 1, 2, 3.
 fn judge_sizes(
@@ -38,32 +29,27 @@ fn judge_sizes(
     new_cells: usize,
     due: usize,
     room: usize,
-) -> Outcome
+) -> Result<(), Refusal>
     ensures { result ≡ outcome_of (look_sizes_refusal kind n numbers cells new_cells due room) }
 {
-    if !checks::leaf_count(n) {
-        return Outcome::Refused(Refusal::LeafCount);
+    if !checks::leaf_count(n) || !checks::leaf_count_of(kind, n + 1) {
+        return Err(Refusal::LeafCount);
     }
-    if !checks::leaf_count_of(kind, n + 1) {
-        return Outcome::Refused(Refusal::LeafCount);
-    }
-    if numbers != checks::listing_numbers(n) {
-        return Outcome::Refused(Refusal::InputLength);
-    }
-    if cells != checks::table_cells(n) {
-        return Outcome::Refused(Refusal::InputLength);
-    }
-    if new_cells != checks::table_cells(n + 1) {
-        return Outcome::Refused(Refusal::InputLength);
+    if numbers != checks::listing_numbers(n)
+        || cells != checks::table_cells(n)
+        || new_cells != checks::table_cells(n + 1)
+    {
+        return Err(Refusal::InputLength);
     }
     if room < due {
-        return Outcome::Refused(Refusal::OutputRoom);
+        return Err(Refusal::OutputRoom);
     }
-    Outcome::Done
+    Ok(())
 }
 
 // All that is judged of a look: the sizes; then what is judged of a graft that has room for its results; then the cells
 // of the new table: 1, 2, 3, 7, 8, 4, 5, 20, 4, 5. For the crates above.
+// No struct of the lent inputs: `look` and `look_all` take them as C lends them, and would make one for this call.
 pub fn judge(
     kind: Kind,
     n: usize,
@@ -73,25 +59,19 @@ pub fn judge(
     edge: usize,
     due: usize,
     room: usize,
-) -> Outcome
+) -> Result<(), Refusal>
     ensures { result ≡ outcome_of (look_refusal kind n listing.now table.now
         new.now (names_edge n edge) due room) }
 {
-    let sizes = judge_sizes(kind, n, listing.len(), table.len(), new.len(), due, room);
-    let Outcome::Done = sizes else {
-        return sizes;
-    };
-    let graft = change_checks::judge(
+    judge_sizes(kind, n, listing.len(), table.len(), new.len(), due, room)?;
+    change_checks::judge(
         Change::Graft(edge),
         n,
         listing,
         table,
         MOST_NUMBERS,
         MOST_CELLS,
-    );
-    let Outcome::Done = graft else {
-        return graft;
-    };
+    )?;
     table_checks::judge(kind, n + 1, new, 0, 0)
 }
 
@@ -115,15 +95,12 @@ pub fn look(
     table: &[u32],
     new: &[u32],
     edge: usize,
-) -> LookOutcome
-    ensures { result ≡ look_outcome (look_answer kind n listing.now table.now new.now
+) -> Result<u64, Refusal>
+    ensures { result ≡ returned (look_answer kind n listing.now table.now new.now
         edge) }
 {
-    let judged = judge(kind, n, listing, table, new, edge, 0, 0);
-    if let Outcome::Refused(r) = judged {
-        return LookOutcome::Refused(r);
-    }
-    LookOutcome::Total(total_at(kind, n, listing, new, edge))
+    judge(kind, n, listing, table, new, edge, 0, 0)?;
+    Ok(total_at(kind, n, listing, new, edge))
 }
 
 // How many edges a tree on n leaves has; 0 where no tree has n leaves.
@@ -145,7 +122,7 @@ fn write_all(kind: Kind, n: usize, listing: &[u16], table: &[u32], new: &[u32], 
         (λ k. look_total kind n listing.now new.now (k + 1)) out.old }
 {
     let last = total_at(kind, n, listing, new, 2 * n - 3);
-    let scale = limits::scale_of(kind);
+    let scale = kind.scale();
     let p = scaled_counts(kind, n);
     let mut rows = [0u16; MOST_NUMBERS];
     standard_rows(n, listing, &mut rows);
@@ -162,26 +139,13 @@ pub fn look_all(
     table: &[u32],
     new: &[u32],
     out: &mut [u64],
-) -> Outcome
+) -> Result<(), Refusal>
     ensures answer { result ≡ outcome (look_all_answer kind n listing.now table.now
         new.now (length out.old)) }
     ensures buffer { out.new ≡ written (look_all_answer kind n listing.now
         table.now new.now (length out.old)) out.old }
 {
-    let judged = judge(kind, n, listing, table, new, 1, edge_count(n), out.len());
-    let Outcome::Done = judged else {
-        return judged;
-    };
+    judge(kind, n, listing, table, new, 1, edge_count(n), out.len())?;
     write_all(kind, n, listing, table, new, out);
-    judged
-}
-
-// The reply of a C call with this answer: the total gap is the figure. For the crates above.
-pub fn look_reply(answer: LookOutcome) -> u64
-    ensures { result ≡ told_look answer }
-{
-    match answer {
-        LookOutcome::Total(total) => replies::in_one(0, total as usize),
-        LookOutcome::Refused(r) => replies::refusal_reply(r),
-    }
+    Ok(())
 }

@@ -1,1 +1,2 @@
 mod NameBytes
+pub mod Tells

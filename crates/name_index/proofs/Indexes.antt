@@ -1,5 +1,6 @@
 -- The chains of an index. Of each bucket a chain runs down through all its leaves, so that those which it leaves out
 -- have other names: the invariant of a search is that no leaf from here up has the name.
+use Rattle.std.specs.Prelude.{Some, None, position}
 use mathlib.Core.Path.{◌≡◌, ap, sym, ◌∙◌}
 use mathlib.Core.Logic.{◌≢◌, inl, inr}
 use mathlib.Core.Bool.{true, false}
@@ -17,12 +18,12 @@ use Rattle.base.specs.Lists.{tab}
 use Rattle.base.proofs.Bools.{bool?, is_false, never}
 use Rattle.base.proofs.Lists.{length_tab}
 use Rattle.limits.specs.Limits.{most_leaves}
-use Rattle.sheet_rules.specs.Sheets.{name_at, next_name, name_start, name, same, leaf_named}
+use Rattle.sheet_rules.specs.Sheets.{name_at, next_name, name_start, name, same}
 use Rattle.sheet_rules.specs.Operations.{repeated}
 use Rattle.sheet_rules.proofs.Names.{same_is, named_none, any_tab_none, next_before, start_next, start_name}
 use Rattle.name_index.specs.inner.Hashes.{buckets, bucket_of}
 use Rattle.name_index.specs.inner.Indexes.{leaf_bucket, latest, Indexes}
-use Rattle.name_index.proofs.NamedLeaves.{named_first}
+use Rattle.name_index.proofs.NamedLeaves.{named_first, found_here, found_nowhere}
 
 -- the greatest number below k that is sent to b: it is, and those above it are not
 module _ (f : ℕ → ℕ) (b : ℕ) where
@@ -178,12 +179,15 @@ module _ {S : List ℕ} {k : ℕ} {heads before starts : List ℕ} (x : Indexes 
           let l : i < k = omega (arith, s.within) in
           omega (arith, e, x.before_are i l, latest_within (leaf_bucket S) (leaf_bucket S i) i)
 
-      pub search_finds : same y (name S i) ≡ true → leaf_named (tab k (name S)) y ≡ i
+      pub search_finds : same y (name S i) ≡ true → Some i ≡ position (same y) (tab k (name S))
       search_finds t =
           let l : i < k = omega (arith, s.within) in
-          named_first y (name S) k i l t (unfold repeated in rw (same_is y (name S i) t) (x.distinct i l))
+          let first =
+          named_first y (name S) k i l t (unfold repeated in rw (same_is y (name S i) t) (x.distinct i l)) in
+          found_here (tab k (name S)) y first (rw (length_tab k (name S)) l)
 
-pub search_fails : {S : List ℕ} {k : ℕ} {y : List ℕ} → Searching S k y 0 → leaf_named (tab k (name S)) y ≡ k
+pub search_fails :
+    {S : List ℕ} {k : ℕ} {y : List ℕ} → Searching S k y 0 → None ≡ position (same y) (tab k (name S))
 search_fails {S} {k} {y} s =
-    named_none (tab k (name S)) y (any_tab_none (same y) (name S) k (λ i l. s.unlike i (omega arith) l))
-    ∙ length_tab k (name S)
+    found_nowhere (tab k (name S)) y
+    (named_none (tab k (name S)) y (any_tab_none (same y) (name S) k (λ i l. s.unlike i (omega arith) l)))

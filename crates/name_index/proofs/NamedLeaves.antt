@@ -1,13 +1,16 @@
 -- The leaf that has a name: where the name is one of those known, and the first place of it in a list by a rule.
-use mathlib.Core.Path.{◌≡◌, refl, sym, ◌∙◌}
+use Rattle.std.specs.Prelude.{Option, Some, None, cond, is_some, position}
+use Rattle.std.specs.List.{position_or_len}
+use Rattle.std.proofs.lemmas.List.Recursion.{is_position_or_len}
+use mathlib.Core.Path.{◌≡◌, refl, ap, sym, ◌∙◌}
 use mathlib.Core.Logic.{inl, inr}
-use mathlib.Core.Bool.{true, false}
+use mathlib.Core.Bool.{Bool, true, false}
 use mathlib.Core.List.{List, [], ◌∷◌, ◌++◌}
-use Prim.Native.Nat.{ℕ, zero, suc, ◌+◌, ◌<◌}
+use Prim.Native.Nat.{ℕ, zero, suc, ◌+◌, ◌≤◌, ◌<◌}
 use native.Mathlib.Nat.{add-zero, zero-add}
 use native.Mathlib.Omega.{arith}
 use native.Mathlib.Decide.{dec_lt}
-use borrow.Author.Tests.{ltb-true, lt-ltb}
+use borrow.Author.Tests.{ltb-true, lt-ltb, le-ltb}
 use lib.Dec.{ltb}
 use lib.ListN.{length}
 use Rattle.base.specs.Lists.{tab, any_in}
@@ -64,7 +67,61 @@ module _ (x : List ℕ) where
         rw (e, named_past (tab i f) (f i ∷ []) h, here, length_tab i f) (add-zero i))
   ]
 
--- leaf i's name equals an earlier one where an earlier leaf has it
-pub repeated_named : (S : List ℕ) (i : ℕ) → repeated S i ≡ ltb (leaf_named (tab i (name S)) (name S i)) i
+-- the leaf that has a name, as it is found
+leaf_position : (x : List ℕ) (known : List (List ℕ)) → leaf_named known x ≡ position_or_len (same x) known
+unfolding leaf_named
+leaf_position x = is_position_or_len (λ l. leaf_named l x) (same x) refl (λ y l. elim (bool? (same x y)) [
+  | inl t ↦ rw t
+  | inr f ↦ rw f (omega arith)
+])
+
+is_some_cond : (b : Bool) (i : ℕ) → is_some (cond b (Some i) None) ≡ b
+is_some_cond true i = refl
+is_some_cond false i = refl
+
+module _ (known : List (List ℕ)) (x : List ℕ) where
+  position_is :
+      position (same x) known ≡ cond (ltb (leaf_named known x) (length known)) (Some (leaf_named known x)) None
+  position_is = rw (leaf_position x known) refl
+
+  -- it is found where it is one of those known
+  pub found_here : {i : ℕ} → leaf_named known x ≡ i → i < length known → Some i ≡ position (same x) known
+  found_here {i} e l = sym (position_is ∙ rw (e, lt-ltb i (length known) l))
+
+  pub found_nowhere : leaf_named known x ≡ length known → None ≡ position (same x) known
+  found_nowhere e = sym (position_is ∙ rw (e, le-ltb (length known) (length known) (omega arith)))
+
+  any_found : any_in (same x) known ≡ is_some (position (same x) known)
+  any_found =
+      named_any x known
+      ∙ sym (ap is_some position_is ∙ is_some_cond (ltb (leaf_named known x) (length known)) (leaf_named known x))
+
+  module _ {o : Option ℕ} (e : o ≡ position (same x) known) where
+    -- and what was found, or not, tells which leaf has the name
+    pub named_found : {i : ℕ} → o ≡ Some i → (leaf_named known x ≡ i) × (i < length known)
+    named_found {i} h = elim (dec_lt (leaf_named known x) (length known)) [
+      | yes l ↦
+          (let s : Some i ≡ Some (leaf_named known x) =
+          sym h ∙ e ∙ position_is ∙ rw (lt-ltb (leaf_named known x) (length known) l) refl in
+          let same_leaf : i ≡ leaf_named known x = cc in
+          (sym same_leaf, omega arith))
+      | no g ↦
+          absurd (let s : Some i ≡ None =
+          sym h ∙ e ∙ position_is ∙ rw (le-ltb (leaf_named known x) (length known) (omega arith)) refl in
+          let z : ◌≡◌ {A = ℕ} 0 1 = cc in omega arith)
+    ]
+
+    pub named_nowhere : o ≡ None → length known ≤ leaf_named known x
+    named_nowhere h = elim (dec_lt (leaf_named known x) (length known)) [
+      | yes l ↦
+          absurd (let s : None ≡ Some (leaf_named known x) =
+          sym h ∙ e ∙ position_is ∙ rw (lt-ltb (leaf_named known x) (length known) l) refl in
+          let z : ◌≡◌ {A = ℕ} 0 1 = cc in omega arith)
+      | no g ↦ omega arith
+    ]
+
+-- leaf i's name equals an earlier one where it is found among them
+pub repeated_found :
+    (S : List ℕ) (i : ℕ) {o : Option ℕ} → o ≡ position (same (name S i)) (tab i (name S)) → repeated S i ≡ is_some o
 unfolding repeated
-repeated_named S i = named_any (name S i) (tab i (name S)) ∙ rw (length_tab i (name S))
+repeated_found S i e = rw e (any_found (tab i (name S)) (name S i))

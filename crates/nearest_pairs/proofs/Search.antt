@@ -220,30 +220,6 @@ module _ {n : ℕ} {label sizes sums : List ℕ} (fit : SearchFits n label sizes
           | no d ↦ inl (row_more i j k l r d)
         ]
 
-  -- the whole row is looked at
-  pub row_end :
-      {i : ℕ} {best : Pair} → Best n label sizes sums (RowTo i n) best → Partner n label sizes sums i best.second
-  row_end {i} {best} h = record {
-    none = λ e k l p r. h.taken.none e k l p (r, p.below);
-    two = λ d. rw (h.taken.within d).0 at (h.taken.two d);
-    within = λ d. refl;
-    first = λ d k l p r.
-        rw (h.taken.within d).0 at (h.taken.first d k l p (r, p.below));
-  }
-
-  -- The pair that is taken first, once the row of i is looked at.
-  pub rows_start : Best n label sizes sums (Rows 0) (record { first = 0; second = n; sum = 1; cells = 0 })
-  rows_start = record {
-    taken = record {
-      none = λ e k l p r. omega arith;
-      two = λ d. absurd (d refl);
-      within = λ d. absurd (d refl);
-      first = λ d. absurd (d refl);
-    };
-    kept = λ d. absurd (d refl);
-    above = λ e. (refl, refl);
-  }
-
   module _ {i : ℕ} {best : Pair} (h : Best n label sizes sums (Rows i) best) where
     rows_still : best.second ≢ n → Rows (i + 1) best.first best.second
     rows_still d = omega (arith, h.taken.within d)
@@ -325,12 +301,3 @@ module _ {n : ℕ} {label sizes sums : List ℕ} (fit : SearchFits n label sizes
 abbrev pub PartnersTo : (n : ℕ) (label sizes sums : List ℕ) (c : ℕ) (partners : List ℕ) → Type 0
 PartnersTo n label sizes sums c partners =
     (i : ℕ) → i < c → get_or label i 0 ≡ i → Partner n label sizes sums i (get_or partners i 0)
-
-pub partners_turn :
-    (n : ℕ) (label sizes sums : List ℕ) (c : ℕ) (partners : List ℕ) (v : ℕ) → c < length partners
-    → PartnersTo n label sizes sums c partners → (get_or label c 0 ≡ c → Partner n label sizes sums c v)
-    → PartnersTo n label sizes sums (c + 1) (set partners c v)
-partners_turn n label sizes sums c partners v l h new k lk o = elim (ℕ_discrete k c) [
-  | yes e ↦ rw (e, get_or-set_same partners c v 0 l) (new (rw e at o))
-  | no d ↦ rw (get_or-set_other partners c k v 0 d) (h k (omega arith) o)
-]

@@ -10,7 +10,7 @@ ghost use Rattle.nearest_pairs.specs.inner.Nearest.{Best};
 
 use gap_sums::pair_place;
 use limits::{MOST_LEAVES, MOST_PAIRS};
-use numbers::index_of_u32;
+use state_arrays::Arrays;
 
 // Two labels, the smaller first, with the sum of their cells' gaps and the number of their cells.
 #[derive(Clone, Copy)]
@@ -22,18 +22,16 @@ pub struct Pair {
 }
 
 // The pair of the labels i < j.
-fn pair_of(sizes: &[usize; MOST_LEAVES], sums: &[u64; MOST_PAIRS], i: usize, j: usize) -> Pair
-    requires { (i < j) × (j < most_leaves) × (get_or sizes.now i 0 ≤ most_leaves)
-        × (get_or sizes.now j 0 ≤ most_leaves) }
-    ensures { result ≡ kept_pair sizes.now sums.now i j }
+fn pair_of(arrays: &Arrays, sums: &[u64; MOST_PAIRS], i: usize, j: usize) -> Pair
+    requires { (i < j) × (j < most_leaves) × (get_or arrays.now.sizes i 0 ≤ most_leaves)
+        × (get_or arrays.now.sizes j 0 ≤ most_leaves) }
+    ensures { result ≡ kept_pair arrays.now.sizes sums.now i j }
 {
-    let sum = sums[pair_place(i, j)];
-    let cells = (sizes[i] * sizes[j]) as u64;
     Pair {
         first: i,
         second: j,
-        sum: sum,
-        cells: cells,
+        sum: sums[pair_place(i, j)],
+        cells: (arrays.sizes[i] * arrays.sizes[j]) as u64,
     }
 }
 
@@ -43,52 +41,47 @@ fn smaller(best: Pair, next: Pair) -> Pair
     ensures { Smaller best next result }
 {
     if next.sum * best.cells < best.sum * next.cells {
-        return next;
+        next
+    } else {
+        best
     }
-    best
 }
 
 // The pair of i that is taken first once j is looked at.
 fn nearer(
     n: usize,
-    label: &[u32; MOST_LEAVES],
-    sizes: &[usize; MOST_LEAVES],
+    arrays: &Arrays,
     sums: &[u64; MOST_PAIRS],
     i: usize,
     best: Pair,
     j: usize,
 ) -> Pair
-    requires { SearchFits n label.now sizes.now sums.now × (get_or label.now i 0 ≡ i) × (i < j) × (j < n)
-        × Best n label.now sizes.now sums.now (RowTo i j) best }
-    ensures { Best n label.now sizes.now sums.now (RowTo i (j + 1)) result }
+    requires { SearchFits n arrays.now.label arrays.now.sizes sums.now × (get_or arrays.now.label i 0 ≡ i)
+        × (i < j) × (j < n) × Best n arrays.now.label arrays.now.sizes sums.now (RowTo i j) best }
+    ensures { Best n arrays.now.label arrays.now.sizes sums.now (RowTo i (j + 1)) result }
 {
-    if index_of_u32(label[j]) != j {
-        return best;
+    if arrays.label[j] as usize == j {
+        smaller(best, pair_of(arrays, sums, i, j))
+    } else {
+        best
     }
-    smaller(best, pair_of(sizes, sums, i, j))
 }
 
 // The partner of the label i; n where there is none.
-fn find_partner(
-    n: usize,
-    label: &[u32; MOST_LEAVES],
-    sizes: &[usize; MOST_LEAVES],
-    sums: &[u64; MOST_PAIRS],
-    i: usize,
-) -> usize
-    requires { SearchFits n label.now sizes.now sums.now × (i < n) × (get_or label.now i 0 ≡ i) }
-    ensures { Partner n label.now sizes.now sums.now i result }
+fn find_partner(n: usize, arrays: &Arrays, sums: &[u64; MOST_PAIRS], i: usize) -> usize
+    requires { SearchFits n arrays.now.label arrays.now.sizes sums.now × (i < n)
+        × (get_or arrays.now.label i 0 ≡ i) }
+    ensures { Partner n arrays.now.label arrays.now.sizes sums.now i result }
 {
+    // Not an Option: the pair that is none has the mean 1 / 0, which is more than any, and so needs no test of its own.
     let mut best = Pair {
         first: i,
         second: n,
         sum: 1,
         cells: 0,
     };
-    let mut j: usize = i + 1;
-    while j < n {
-        best = nearer(n, label, sizes, sums, i, best, j);
-        j += 1;
+    for j in i + 1..n {
+        best = nearer(n, arrays, sums, i, best, j);
     }
     best.second
 }
@@ -96,71 +89,61 @@ fn find_partner(
 // The partner of every label. For the crates above.
 pub fn find_partners(
     n: usize,
-    label: &[u32; MOST_LEAVES],
-    sizes: &[usize; MOST_LEAVES],
+    arrays: &Arrays,
     sums: &[u64; MOST_PAIRS],
     partners: &mut [usize; MOST_LEAVES],
 )
-    requires { SearchFits n label.now sizes.now sums.now × (length partners.old ≡ most_leaves)
-        × ((k : ℕ) → k < n → get_or label.now k 0 ≡ k) }
+    requires { SearchFits n arrays.now.label arrays.now.sizes sums.now × (length partners.old ≡ most_leaves)
+        × ((k : ℕ) → k < n → get_or arrays.now.label k 0 ≡ k) }
     ensures { (length partners.new ≡ most_leaves)
-        × Partners n label.now sizes.now sums.now partners.new }
+        × Partners n arrays.now.label arrays.now.sizes sums.now partners.new }
 {
-    let mut i: usize = 0;
-    while i < n {
-        partners[i] = find_partner(n, label, sizes, sums, i);
-        i += 1;
+    for i in 0..n {
+        partners[i] = find_partner(n, arrays, sums, i);
     }
 }
 
 // The pair that is taken first once those of i are looked at, which are none where i is no label.
 fn better(
     n: usize,
-    label: &[u32; MOST_LEAVES],
-    sizes: &[usize; MOST_LEAVES],
+    arrays: &Arrays,
     sums: &[u64; MOST_PAIRS],
     partners: &[usize; MOST_LEAVES],
     best: Pair,
     i: usize,
 ) -> Pair
-    requires { SearchFits n label.now sizes.now sums.now
-        × Partners n label.now sizes.now sums.now partners.now × (i < n)
-        × Best n label.now sizes.now sums.now (Rows i) best }
-    ensures { Best n label.now sizes.now sums.now (Rows (i + 1)) result }
+    requires { SearchFits n arrays.now.label arrays.now.sizes sums.now
+        × Partners n arrays.now.label arrays.now.sizes sums.now partners.now × (i < n)
+        × Best n arrays.now.label arrays.now.sizes sums.now (Rows i) best }
+    ensures { Best n arrays.now.label arrays.now.sizes sums.now (Rows (i + 1)) result }
 {
-    if index_of_u32(label[i]) != i {
-        return best;
-    }
     let j = partners[i];
-    if j == n {
+    if arrays.label[i] as usize != i || j == n {
         return best;
     }
-    smaller(best, pair_of(sizes, sums, i, j))
+    smaller(best, pair_of(arrays, sums, i, j))
 }
 
 // The pair of labels that is taken first. For the crates above.
 pub fn choose(
     n: usize,
-    label: &[u32; MOST_LEAVES],
-    sizes: &[usize; MOST_LEAVES],
+    arrays: &Arrays,
     sums: &[u64; MOST_PAIRS],
     partners: &[usize; MOST_LEAVES],
 ) -> Pair
-    requires { SearchFits n label.now sizes.now sums.now
-        × Partners n label.now sizes.now sums.now partners.now }
-    ensures { Chosen n label.now sizes.now sums.now result.first
-        result.second }
+    requires { SearchFits n arrays.now.label arrays.now.sizes sums.now
+        × Partners n arrays.now.label arrays.now.sizes sums.now partners.now }
+    ensures { Chosen n arrays.now.label arrays.now.sizes sums.now result.first result.second }
 {
+    // Not an Option, as in `find_partner`.
     let mut best = Pair {
         first: 0,
         second: n,
         sum: 1,
         cells: 0,
     };
-    let mut i: usize = 0;
-    while i < n {
-        best = better(n, label, sizes, sums, partners, best, i);
-        i += 1;
+    for i in 0..n {
+        best = better(n, arrays, sums, partners, best, i);
     }
     best
 }
@@ -168,22 +151,18 @@ pub fn choose(
 // The one of the labels j < k whose pair with i is taken first.
 fn nearer_of_two(
     n: usize,
-    label: &[u32; MOST_LEAVES],
-    sizes: &[usize; MOST_LEAVES],
+    arrays: &Arrays,
     sums: &[u64; MOST_PAIRS],
     i: usize,
     j: usize,
     k: usize,
 ) -> usize
-    requires { SearchFits n label.now sizes.now sums.now × TwoLabels n label.now i j
-        × TwoLabels n label.now i k × (j < k) }
-    ensures { (taken_before sizes.now sums.now (i, k) (i, j) ≡ true → result ≡ k)
-        × (taken_before sizes.now sums.now (i, k) (i, j) ≡ false → result ≡ j) }
+    requires { SearchFits n arrays.now.label arrays.now.sizes sums.now × TwoLabels n arrays.now.label i j
+        × TwoLabels n arrays.now.label i k × (j < k) }
+    ensures { (taken_before arrays.now.sizes sums.now (i, k) (i, j) ≡ true → result ≡ k)
+        × (taken_before arrays.now.sizes sums.now (i, k) (i, j) ≡ false → result ≡ j) }
 {
-    let first = pair_of(sizes, sums, i, j);
-    let next = pair_of(sizes, sums, i, k);
-    let best = smaller(first, next);
-    best.second
+    smaller(pair_of(arrays, sums, i, j), pair_of(arrays, sums, i, k)).second
 }
 
 // Whether the partner of i is looked for anew after the subtree `b` became a part of `a`: where i is `a`, and where the
@@ -191,85 +170,57 @@ fn nearer_of_two(
 fn is_stale(a: usize, b: usize, i: usize, old: usize) -> bool
     ensures { result ≡ false → (i ≢ a) × (old ≢ a) × (old ≢ b) }
 {
-    if i == a {
-        return true;
-    }
-    if old == a {
-        return true;
-    }
-    old == b
+    i == a || old == a || old == b
 }
 
 // The partner of the label i after that merge: where it is not looked for anew, it stays if i comes after `a`; before
 // that the new pair with `a` may be taken first.
 fn renewed(
     n: usize,
-    label: &[u32; MOST_LEAVES],
-    sizes: &[usize; MOST_LEAVES],
+    arrays: &Arrays,
     sums: &[u64; MOST_PAIRS],
     a: usize,
     b: usize,
     i: usize,
     old: usize,
 ) -> usize
-    requires { SearchFits n label.now sizes.now sums.now × (a < n) × (get_or label.now a 0 ≡ a) × (i < n)
-        × (get_or label.now i 0 ≡ i) × Outdated n label.now sizes.now sums.now a b i old }
-    ensures { Partner n label.now sizes.now sums.now i result }
+    requires { SearchFits n arrays.now.label arrays.now.sizes sums.now × (a < n) × (get_or arrays.now.label a 0 ≡ a)
+        × (i < n) × (get_or arrays.now.label i 0 ≡ i)
+        × Outdated n arrays.now.label arrays.now.sizes sums.now a b i old }
+    ensures { Partner n arrays.now.label arrays.now.sizes sums.now i result }
 {
     if is_stale(a, b, i, old) {
-        return find_partner(n, label, sizes, sums, i);
+        return find_partner(n, arrays, sums, i);
     }
     if a < i {
         return old;
     }
     if old < a {
-        return nearer_of_two(n, label, sizes, sums, i, old, a);
+        return nearer_of_two(n, arrays, sums, i, old, a);
     }
-    nearer_of_two(n, label, sizes, sums, i, a, old)
-}
-
-// The partner of i, if that is a label; else what was there.
-fn renewed_if_label(
-    n: usize,
-    label: &[u32; MOST_LEAVES],
-    sizes: &[usize; MOST_LEAVES],
-    sums: &[u64; MOST_PAIRS],
-    a: usize,
-    b: usize,
-    i: usize,
-    old: usize,
-) -> usize
-    requires { SearchFits n label.now sizes.now sums.now × (a < n) × (get_or label.now a 0 ≡ a) × (i < n)
-        × (get_or label.now i 0 ≡ i → Outdated n label.now sizes.now sums.now a b i old) }
-    ensures { get_or label.now i 0 ≡ i
-        → Partner n label.now sizes.now sums.now i result }
-{
-    if index_of_u32(label[i]) != i {
-        return old;
-    }
-    renewed(n, label, sizes, sums, a, b, i, old)
+    nearer_of_two(n, arrays, sums, i, a, old)
 }
 
 // The partners of all labels after the subtree `b` became a part of `a`: those of the labels after `b` stay. For the
 // crates above.
 pub fn renew_partners(
     n: usize,
-    label: &[u32; MOST_LEAVES],
-    sizes: &[usize; MOST_LEAVES],
+    arrays: &Arrays,
     sums: &[u64; MOST_PAIRS],
     a: usize,
     b: usize,
     partners: &mut [usize; MOST_LEAVES],
 )
-    requires { SearchFits n label.now sizes.now sums.now × (a < b) × (b < n) × (get_or label.now a 0 ≡ a)
-        × (length partners.old ≡ most_leaves) × ((i : ℕ) → i < n → get_or label.now i 0 ≡ i
-        → Outdated n label.now sizes.now sums.now a b i (get_or partners.old i 0)) }
+    requires { SearchFits n arrays.now.label arrays.now.sizes sums.now × (a < b) × (b < n)
+        × (get_or arrays.now.label a 0 ≡ a) × (length partners.old ≡ most_leaves)
+        × ((i : ℕ) → i < n → get_or arrays.now.label i 0 ≡ i
+        → Outdated n arrays.now.label arrays.now.sizes sums.now a b i (get_or partners.old i 0)) }
     ensures { (length partners.new ≡ most_leaves)
-        × Partners n label.now sizes.now sums.now partners.new }
+        × Partners n arrays.now.label arrays.now.sizes sums.now partners.new }
 {
-    let mut i: usize = 0;
-    while i < b {
-        partners[i] = renewed_if_label(n, label, sizes, sums, a, b, i, partners[i]);
-        i += 1;
+    for i in 0..b {
+        if arrays.label[i] as usize == i {
+            partners[i] = renewed(n, arrays, sums, a, b, i, partners[i]);
+        }
     }
 }

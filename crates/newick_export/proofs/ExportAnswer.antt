@@ -1,6 +1,7 @@
 -- The answer of export, as code gives it: what is judged in goes is what the answer refuses in order; and where nothing
 -- is refused, the text that was put is the answer's.
-use mathlib.Core.Path.{◌≡◌, refl, ap, sym, ◌∙◌}
+use Rattle.std.specs.Prelude.{Result, Ok, Err}
+use mathlib.Core.Path.{◌≡◌, ap, sym, ◌∙◌}
 use mathlib.Core.List.{List, [], ◌∷◌, ◌++◌}
 use mathlib.Core.Option.{Option, none, some}
 use Prim.Native.Nat.{ℕ, ◌-◌, ◌*◌, ◌≤◌, ◌<◌}
@@ -9,18 +10,17 @@ use native.Mathlib.Omega.{arith}
 use lib.ListN.{length}
 use lib.Seq.{sets-eq}
 use Rattle.refusals.specs.declared.Refusal.{Refusal}
-use Rattle.refusals.specs.declared.Outcome.{Outcome}
-use Rattle.refusals.specs.declared.Outcome.TheVariants.{Done, Refused}
-use Rattle.refusals.specs.Refusals.{judged, answered, outcome_of, written}
-use Rattle.refusals.proofs.Answers.{judged_nest, judged_behind, judged_none, judged_alone, refused_some}
-use Rattle.refusals.proofs.Answers.{call_passed, call_refused, call_done}
+use Rattle.refusals.specs.Refusals.{judged, answered, written, returned}
+use Rattle.refusals.proofs.Answers.{judged_nest, judged_behind, judged_none, judged_alone}
+use Rattle.refusals.proofs.Answers.{HandsOn, handed_on, written_refused, written_done}
 use Rattle.trees.specs.Listings.{rules_refusal, tree_of}
 use Rattle.checks.specs.Sizes.{count_refusal, length_refusal, input_refusal, room_refusal}
 use Rattle.checks.proofs.Sizes.{room_right}
 use Rattle.sheet_rules.specs.Sheets.{leaves_of, offset_of, names_of}
 use Rattle.sheet_rules.specs.Operations.{sheet_ends_refusal, sheet_length_refusal, names_refusal}
-use Rattle.name_index.specs.inner.Indexes.{Indexes}
-use Rattle.name_index.proofs.Indexes.{index_place}
+use Rattle.sheet_rules.proofs.Names.{next_before}
+use Rattle.name_index.specs.inner.Indexes.{FirstNames, first_names, StartsOf}
+use Rattle.name_checks.proofs.Tells.{tells_none, tells_this, tells_some}
 use Rattle.newick_rules.specs.Exporting.{exported}
 use Rattle.newick_rules.specs.Operations.{export_answer}
 use Rattle.newick_writing.specs.inner.Writing.{Put, Placed, Ready}
@@ -46,39 +46,45 @@ module _ (S l : List ℕ) (room : ℕ) where
 
 -- an index has where the names start
 index_placed :
-    {S : List ℕ} {k : ℕ} {heads before starts : List ℕ} → Indexes S k heads before starts
-    → (i : ℕ) → i < k → Placed S starts i
-index_placed x i l =
-    record { inside = omega (arith, x.few); start = x.starts_are i l; ends = index_place x l refl }
+    {x : FirstNames} {starts : List ℕ} → StartsOf x starts → (i : ℕ) → i < x.many → Placed x.sheet starts i
+index_placed {x} s i l =
+    record {
+      inside = omega (arith, s.few);
+      start = s.starts_are i l;
+      ends = omega (arith, next_before x.sheet (s.starts_are i l) l, s.ends);
+    }
 
 -- as code replies: something is refused, or nothing is and the text was put
 reply_refused :
-    (o : Option Refusal) (x : List ℕ) {q : Outcome} {r : Refusal} → q ≡ Refused r → o ≡ some r
-    → record { length = 0; outcome = q } ≡ replied (answered o x)
+    (o : Option Refusal) (x : List ℕ) {r : Result ℕ Refusal} {e : Refusal} → o ≡ some e → HandsOn r e
+    → r ≡ replied (answered o x)
 unfolding replied answered
-reply_refused o x h e = rw (h, e)
+reply_refused o x h p = handed_on _ p ∙ rw h
 
 reply_done :
-    (o : Option Refusal) (x : List ℕ) {q : Outcome} {w : ℕ} → q ≡ Done → o ≡ none → w ≡ length x
-    → record { length = w; outcome = q } ≡ replied (answered o x)
+    (o : Option Refusal) (x : List ℕ) {w : ℕ} → o ≡ none → w ≡ length x → Ok w ≡ replied (answered o x)
 unfolding replied answered
-reply_done o x h e many = rw (h, e, many)
+reply_done o x h many = rw (h, many)
 
-module _ (S l t : List ℕ) {q : Outcome} (told : q ≡ outcome_of (export_refusal S l (length t))) where
+module _ (S l t : List ℕ) {q : Result FirstNames Refusal}
+    (says : q ≡ returned (answered (export_refusal S l (length t)) (first_names S (leaves_of S)))) where
   pub export_refused :
-      {r : Refusal} → q ≡ Refused r
-      → (record { length = 0; outcome = q } ≡ replied (export_answer S l (length t)))
-      × (t ≡ written (export_answer S l (length t)) t)
-  export_refused h =
+      {r : Result ℕ Refusal} {e : Refusal} → q ≡ Err e → HandsOn r e
+      → (r ≡ replied (export_answer S l (length t))) × (t ≡ written (export_answer S l (length t)) t)
+  export_refused h p =
       let o = export_refusal S l (length t) in
+      let arises = tells_some _ _ says h in
       rw (answer_is S l (length t)) (
-        reply_refused o (text_of S l) h (refused_some o _ (sym told ∙ h)),
-        (call_refused o told (text_of S l) t h).1,
+        reply_refused o (text_of S l) arises p,
+        sym (written_refused o _ (text_of S l) t arises),
       )
 
-  module _ (done : q ≡ Done) where
+  module _ {x : FirstNames} (done : q ≡ Ok x) where
     none_arises : export_refusal S l (length t) ≡ none
-    none_arises = call_passed _ told done
+    none_arises = tells_none _ _ says done
+
+    pub index_is : x ≡ first_names S (leaves_of S)
+    index_is = tells_this _ _ says done
 
     given_passed : given_refusal S (leaves_of S) (offset_of S) l ≡ none
     unfolding export_refusal
@@ -92,24 +98,23 @@ module _ (S l t : List ℕ) {q : Outcome} (told : q ≡ outcome_of (export_refus
         room_right _ _ (sym (judged_alone room) ∙ (judged_none given (room ∷ []) none_arises).1)
 
     pub export_ready :
-        {n : ℕ} {heads before starts : List ℕ} → n ≡ leaves_of S
-        → (export_refusal S l (length t) ≡ none → Indexes S (leaves_of S) heads before starts) → Ready S starts n l t
-    export_ready e index =
-        rw e (record {
+        {n : ℕ} {starts : List ℕ} → n ≡ x.many → StartsOf x starts → Ready S starts n l t
+    export_ready e s =
+        rw (e, index_is) (record {
           judged = given_judged S l given_passed;
-          places = index_placed (index none_arises);
+          places = index_placed (rw index_is at s);
           room = record { enough = omega (arith, text_room) };
         })
 
     pub export_done :
-        {n w : ℕ} {t' : List ℕ} → n ≡ leaves_of S → Put (exported (names_of S) (tree_of n l)) 0 t t' w
-        → (record { length = w; outcome = q } ≡ replied (export_answer S l (length t)))
+        {n w : ℕ} {t' : List ℕ} → n ≡ x.many → Put (exported (names_of S) (tree_of n l)) 0 t t' w
+        → (Ok w ≡ replied (export_answer S l (length t)))
         × (t' ≡ written (export_answer S l (length t)) t)
     export_done e p =
         let o = export_refusal S l (length t) in
-        let put = rw e at p in
+        let put = rw (e, index_is) at p in
         let bytes = put.bytes ∙ (rw zero-add at (sets-eq (text_of S l) t 0 (omega (arith, text_room)))) in
         rw (answer_is S l (length t)) (
-          reply_done o (text_of S l) done none_arises (omega (arith, put.next)),
-          (call_done o told (text_of S l) t done bytes).1,
+          reply_done o (text_of S l) none_arises (omega (arith, put.next)),
+          bytes ∙ sym (written_done o (text_of S l) t none_arises),
         )

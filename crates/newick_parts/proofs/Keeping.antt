@@ -7,17 +7,17 @@ use mathlib.Core.List.{List, [], ◌∷◌}
 use mathlib.Core.Option.{Option, none, some}
 use Prim.Native.Nat.{ℕ, suc, ◌+◌, ◌-◌, ◌≤◌, ◌<◌}
 use native.Mathlib.Omega.{arith}
-use borrow.Author.Tests.{ne_eqb, ltb-true, le-leb, lt-leb}
-use lib.Dec.{ltb, leb, eqb}
+use borrow.Author.Tests.{ne_eqb, ltb-true}
+use lib.Dec.{ltb, eqb}
 use lib.ListN.{length, get_or, set, length-set, length-map}
 use lib.Seq.{get_or-set_same, get_or-set_other}
 use Rattle.base.proofs.Bools.{never}
 use Rattle.limits.specs.Limits.{most_leaves, most_numbers, IsLeafCount}
 use Rattle.trees.specs.Trees.{Tree}
 use Rattle.trees.specs.Listings.{subtree_at}
-use Rattle.rerooted_rows.specs.declared.Joined.{Joined}
+use Rattle.rerooted_rows.specs.declared.Rerooting.{Rerooting}
 use Rattle.rerooted_rows.specs.inner.Joining.{Accounted}
-use Rattle.rerooted_rows.specs.inner.Arrays.{JoinFits, Joins}
+use Rattle.rerooted_rows.specs.inner.Arrays.{rows_made, chain_kept, JoinFits, Joins}
 use Rattle.rerooted_rows.proofs.Arrays.{joins_rows, joins_chain, joins_rows_long, joins_chain_long, join_fits}
 use Rattle.newick_rules.specs.Drawings.{Drawing, bracket, Parts, one, more}
 use Rattle.newick_rules.specs.Reader.{opening, closing, comma, Open, with_part}
@@ -32,9 +32,9 @@ use Rattle.newick_reading.proofs.Fitting.{ways_with_part}
 use Rattle.newick_reading.proofs.Naming.{names_opening, names_part, names_close}
 use Rattle.newick_reading.proofs.Joining.{keeps_open, keeps_close, keeps_first, keeps_more}
 use Rattle.newick_parts.specs.declared.Kept.{Kept}
-use Rattle.newick_parts.specs.inner.Keeping.{Piled, rows_made, chain_kept, Built, KeptAt}
-use Rattle.newick_parts.specs.inner.Parts.{PartFits, joined_kept, PartMade, goes_on_at, closes_at, unfit_kept}
-use Rattle.newick_parts.specs.inner.Parts.{closed_kept, PartEnds, Comes, PartAdded, BracketClosed, Came}
+use Rattle.newick_parts.specs.inner.Keeping.{Piled, Built, KeptAt}
+use Rattle.newick_parts.specs.inner.Parts.{PartFits, part_kept, PartMade, goes_on_at, closes_at, unfit_kept}
+use Rattle.newick_parts.specs.inner.Parts.{closed_kept, with_parts, PartEnds, Comes, PartAdded, BracketClosed, Came}
 
 -- Arrays that hold a list.
 
@@ -70,84 +70,80 @@ first_held :
 first_held cells l t a k e q p = let h = rw e at p in rw (← q) h.0
 
 -- The rows while a part is joined.
-module _ {known : List (List ℕ)} {n : ℕ} {o : Open} {s : List Open} {d : Drawing} {K : Kept}
-    {numbers rows chain : List ℕ} {seen : ℕ → Bool} (z : 0 < n)
-    (B : Built known n (o ∷ s) (some d) K numbers rows chain seen) where
+module _ {known : List (List ℕ)} {n : ℕ} {o : Open} {s : List Open} {d : Drawing} {K : Kept} {seen : ℕ → Bool}
+    (z : 0 < n) (B : Built known n (o ∷ s) (some d) K seen) where
   -- the innermost bracket's number, and the others
   split : (a : ℕ) × (l : List ℕ) × (B.of_opens ≡ a ∷ l) × (length l ≡ length s)
   split =
       head_and_tail B.of_opens (length s)
-      (opens_length known (subtree_at n (rows_made K rows)) (chain_kept K chain) (o ∷ s) B.of_opens
+      (opens_length known (subtree_at n (rows_made K.joined)) (chain_kept K.joined) (o ∷ s) B.of_opens
       B.keeps.opens)
 
   keeps_split :
-      Keeps known n (o ∷ s) (some d) (split.0 ∷ split.1) K.last K.rows (rows_made K rows) (chain_kept K chain)
-      seen
+      Keeps known n (o ∷ s) (some d) (split.0 ∷ split.1) K.last K.joined.made (rows_made K.joined)
+      (chain_kept K.joined) seen
   keeps_split = rw split.2 at B.keeps
 
-  held_split : Piled numbers (split.0 ∷ split.1)
+  held_split : Piled K.numbers (split.0 ∷ split.1)
   held_split = rw split.2 at B.opens_held
 
-  number_here : get_or numbers (length s) 0 ≡ split.0
+  number_here : get_or K.numbers (length s) 0 ≡ split.0
   number_here =
-      first_held numbers B.of_opens split.1 split.0 (length s) split.2 split.3 B.opens_held
+      first_held K.numbers B.of_opens split.1 split.0 (length s) split.2 split.3 B.opens_held
 
 -- a first part
 first_built :
-    {known : List (List ℕ)} {n : ℕ} {s : List Open} {d : Drawing} {K : Kept} {numbers rows chain : List ℕ}
-    {seen : ℕ → Bool} → 0 < n → length s < length numbers → Built known n (none ∷ s) (some d) K numbers rows chain seen
-    → Built known n (some (one d) ∷ s) none K (set numbers (length s) K.last) rows chain seen
-first_built {known} {n} {s} {d} {K} {numbers} {rows} {chain} {seen} z low B =
+    {known : List (List ℕ)} {n : ℕ} {s : List Open} {d : Drawing} {K : Kept} {seen : ℕ → Bool} (q : List ℕ)
+    → 0 < n → length s < length K.numbers → Built known n (none ∷ s) (some d) K seen
+    → Built known n (some (one d) ∷ s) none (part_kept (with_parts K q) (length s) K.last K.joined) seen
+first_built {known} {n} {s} {d} {K} {seen} q z low B =
     let r = split z B in
-    let put = piled_more numbers r.1 K.last (omega (arith, r.3)) (held_split z B).1 in
+    let put = piled_more K.numbers r.1 K.last (omega (arith, r.3)) (held_split z B).1 in
     record {
       of_opens = K.last ∷ r.1;
       keeps =
-          keeps_first known n z s r.1 K.last K.rows (rows_made K rows) (chain_kept K chain) seen d r.0
+          keeps_first known n z s r.1 K.last K.joined.made (rows_made K.joined) (chain_kept K.joined) seen d r.0
           (keeps_split z B);
-      opens_held = subst (λ i. Piled (set numbers i K.last) (K.last ∷ r.1)) r.3 put;
+      opens_held = subst (λ i. Piled (set K.numbers i K.last) (K.last ∷ r.1)) r.3 put;
     }
 
 -- one more part
-module _ {known : List (List ℕ)} {n : ℕ} {p : Parts} {s : List Open} {d : Drawing} {K : Kept}
-    {numbers rows chain : List ℕ} {seen : ℕ → Bool} (z : 0 < n)
-    (B : Built known n (some p ∷ s) (some d) K numbers rows chain seen) where
+module _ {known : List (List ℕ)} {n : ℕ} {p : Parts} {s : List Open} {d : Drawing} {K : Kept} {seen : ℕ → Bool}
+    (z : 0 < n) (B : Built known n (some p ∷ s) (some d) K seen) where
   -- the numbers that are joined, and the others
   joint_accounted :
-      Accounted n K.rows (rows_made K rows) (chain_kept K chain)
-      (K.last ∷ get_or numbers (length s) 0 ∷ numbers_of_opens s (split z B).1) seen
+      Accounted n K.joined.made (rows_made K.joined) (chain_kept K.joined)
+      (K.last ∷ get_or K.numbers (length s) 0 ∷ numbers_of_opens s (split z B).1) seen
   unfolding numbers_of_opens number_of_last
   joint_accounted = rw (number_here z B) (keeps_split z B).accounted
 
   part_join_fits :
-      IsLeafCount n → length rows ≡ most_numbers → length chain ≡ most_leaves
-      → JoinFits n (get_or numbers (length s) 0) K.last K.rows K.chained rows chain
+      IsLeafCount n → length K.joined.rows ≡ most_numbers → length K.joined.chain ≡ most_leaves
+      → JoinFits n (get_or K.numbers (length s) 0) K.last K.joined
   part_join_fits count lr lc =
-      join_fits n K.rows K.chained rows chain seen count lr lc (get_or numbers (length s) 0) K.last
+      join_fits n K.joined seen count lr lc (get_or K.numbers (length s) 0) K.last
       (numbers_of_opens s (split z B).1) joint_accounted
 
   more_built :
-      (J : Joined) (rows' chain' : List ℕ) → length s < length numbers
-      → JoinFits n (get_or numbers (length s) 0) K.last K.rows K.chained rows chain
-      → Joins n (get_or numbers (length s) 0) K.last K.rows K.chained rows chain rows' chain' J
-      → Built known n (some (more p d) ∷ s) none (joined_kept K J) (set numbers (length s) J.number) rows' chain'
-      seen
-  more_built joined rows' chain' low F j =
+      (q : List ℕ) (R : Rerooting) (number : ℕ) → length s < length K.numbers
+      → JoinFits n (get_or K.numbers (length s) 0) K.last K.joined
+      → Joins n (get_or K.numbers (length s) 0) K.last K.joined R number
+      → Built known n (some (more p d) ∷ s) none (part_kept (with_parts K q) (length s) number R) seen
+  more_built q R number low F j =
       let r = split z B in
-      let k = keeps_more known n z s r.1 K.last K.rows (rows_made K rows) (chain_kept K chain) seen p d r.0
-      (keeps_split z B) in
-      let put = piled_more numbers r.1 joined.number (omega (arith, r.3)) (held_split z B).1 in
+      let k = keeps_more known n z s r.1 K.last K.joined.made (rows_made K.joined) (chain_kept K.joined) seen p d
+      r.0 (keeps_split z B) in
+      let put = piled_more K.numbers r.1 number (omega (arith, r.3)) (held_split z B).1 in
       record {
-        of_opens = joined.number ∷ r.1;
-        opens_held = subst (λ i. Piled (set numbers i joined.number) (joined.number ∷ r.1)) r.3 put;
+        of_opens = number ∷ r.1;
+        opens_held = subst (λ i. Piled (set K.numbers i number) (number ∷ r.1)) r.3 put;
         keeps = rw (joins_rows F j, joins_chain F j, j.number_is, j.count_is, number_here z B) k;
       }
 
 -- What is kept when a part ends, where so many brackets are open.
-module _ {known : List (List ℕ)} {n : ℕ} {o : Open} {s : List Open} {d : Drawing} {K : Kept}
-    {parts numbers rows chain : List ℕ} {seen : ℕ → Bool} (count : IsLeafCount n) (depth : ℕ)
-    (shallow : depth ≤ most_leaves) (deep : depth ≡ suc (length s))
-    (A : KeptAt known n (o ∷ s) (some d) K parts numbers rows chain seen) where
+module _ {known : List (List ℕ)} {n : ℕ} {o : Open} {s : List Open} {d : Drawing} {K : Kept} {seen : ℕ → Bool}
+    (count : IsLeafCount n) (depth : ℕ) (shallow : depth ≤ most_leaves) (deep : depth ≡ suc (length s))
+    (A : KeptAt known n (o ∷ s) (some d) K seen) where
   z : 0 < n
   z = omega (arith, count.0)
 
@@ -155,66 +151,68 @@ module _ {known : List (List ℕ)} {n : ℕ} {o : Open} {s : List Open} {d : Dra
   place_is = omega arith
 
   -- the parts of the innermost bracket so far
-  ways_here : K.binary ≡ true → get_or parts (depth - 1) 0 ≡ open_ways o
+  ways_here : K.binary ≡ true → get_or K.parts (depth - 1) 0 ≡ open_ways o
   ways_here t = rw place_is (rw (length-map s open_ways) at (A.ways_are t).0)
 
   pub part_fits :
-      K.binary ≡ true → K.named ≡ true
-      → PartFits n (depth - 1) (get_or parts (depth - 1) 0) K numbers rows chain
-  part_fits t u = record {
+      (q : List ℕ) → K.binary ≡ true → K.named ≡ true
+      → PartFits n (depth - 1) (get_or K.parts (depth - 1) 0) (with_parts K q)
+  part_fits q t u = record {
     inside = omega arith;
     numbers_long = A.numbers_long;
     joint = rw (ways_here t, place_is) (go o (A.built t u));
   }
     where
       go :
-          (o : Open) → Built known n (o ∷ s) (some d) K numbers rows chain seen → open_ways o ≢ 0
-          → JoinFits n (get_or numbers (length s) 0) K.last K.rows K.chained rows chain
+          (o : Open) → Built known n (o ∷ s) (some d) K seen → open_ways o ≢ 0
+          → JoinFits n (get_or K.numbers (length s) 0) K.last K.joined
       go none B h = absurd (h (unfold open_ways in refl))
       go (some p) B h = part_join_fits z B count A.rows_long A.chain_long
 
-  -- what `part` makes
+  -- what `part` makes, with other parts
   part_built :
-      (K' : Kept) (numbers' rows' chain' : List ℕ) → K.binary ≡ true → K.named ≡ true
-      → PartMade n (depth - 1) (get_or parts (depth - 1) 0) K numbers rows chain K' numbers' rows' chain'
-      → Built known n (some (with_part o d) ∷ s) none K' numbers' rows' chain' seen
-      × (K'.binary ≡ K.binary) × (K'.named ≡ K.named) × (K'.many ≡ K.many)
-      × (length numbers' ≡ most_leaves) × (length rows' ≡ most_numbers) × (length chain' ≡ most_leaves)
+      (q : List ℕ) (K' : Kept) → K.binary ≡ true → K.named ≡ true
+      → PartMade n (depth - 1) (get_or K.parts (depth - 1) 0) (with_parts K q) K'
+      → Built known n (some (with_part o d) ∷ s) none K' seen
+      × (K'.binary ≡ K.binary) × (K'.named ≡ K.named) × (K'.many ≡ K.many) × (K'.parts ≡ q)
+      × (length K'.numbers ≡ most_leaves) × (length K'.joined.rows ≡ most_numbers)
+      × (length K'.joined.chain ≡ most_leaves)
   unfolding open_ways with_part
-  part_built K' numbers' rows' chain' t u M =
-      go o (A.built t u) (get_or parts (length s) 0) (rw place_is at (ways_here t)) (rw place_is at M)
+  part_built q K' t u M =
+      go o (A.built t u) (get_or K.parts (length s) 0) (rw place_is at (ways_here t)) (rw place_is at M)
     where
       go :
-          (o : Open) → Built known n (o ∷ s) (some d) K numbers rows chain seen → (c : ℕ) → c ≡ open_ways o
-          → PartMade n (length s) c K numbers rows chain K' numbers' rows' chain'
-          → Built known n (some (with_part o d) ∷ s) none K' numbers' rows' chain' seen
-          × (K'.binary ≡ K.binary) × (K'.named ≡ K.named) × (K'.many ≡ K.many)
-          × (length numbers' ≡ most_leaves) × (length rows' ≡ most_numbers) × (length chain' ≡ most_leaves)
+          (o : Open) → Built known n (o ∷ s) (some d) K seen → (c : ℕ) → c ≡ open_ways o
+          → PartMade n (length s) c (with_parts K q) K'
+          → Built known n (some (with_part o d) ∷ s) none K' seen
+          × (K'.binary ≡ K.binary) × (K'.named ≡ K.named) × (K'.many ≡ K.many) × (K'.parts ≡ q)
+          × (length K'.numbers ≡ most_leaves) × (length K'.joined.rows ≡ most_numbers)
+          × (length K'.joined.chain ≡ most_leaves)
       go none B c e M' =
-          let m = M'.first e in
-          let low : length s < length numbers = omega (arith, A.numbers_long) in
-          rw (m.0, m.1, m.2, m.3) (
-            first_built z low B,
+          let low : length s < length K.numbers = omega (arith, A.numbers_long) in
+          rw (M'.first e) (
+            first_built q z low B,
             refl,
             refl,
             refl,
-            length-set numbers (length s) K.last ∙ A.numbers_long,
+            refl,
+            length-set K.numbers (length s) K.last ∙ A.numbers_long,
             A.rows_long,
             A.chain_long,
           )
       go (some p) B c e M' =
-          let m = M'.more (λ q. omega (arith, ways_positive p, e)) in
-          let low : length s < length numbers = omega (arith, A.numbers_long) in
+          let m = M'.more (λ h. omega (arith, ways_positive p, e)) in
+          let low : length s < length K.numbers = omega (arith, A.numbers_long) in
           let F = part_join_fits z B count A.rows_long A.chain_long in
-          let j = m.1 in
-          rw (m.3, m.2) (
-            more_built z B m.0 rows' chain' low F j,
+          rw m.3 (
+            more_built z B q m.0 m.1 low F m.2,
             refl,
             refl,
             refl,
-            length-set numbers (length s) m.0.number ∙ A.numbers_long,
-            joins_rows_long F j,
-            joins_chain_long F j,
+            refl,
+            length-set K.numbers (length s) m.1 ∙ A.numbers_long,
+            joins_rows_long F m.2,
+            joins_chain_long F m.2,
           )
 
   -- The names are those before.
@@ -225,13 +223,13 @@ module _ {known : List (List ℕ)} {n : ℕ} {o : Open} {s : List Open} {d : Dra
   names_closed = rw (names_close (with_part o d) s) names_added
 
   -- The tests of the parts, by the count in the array and the place.
-  goes_on : K.binary ≡ true → ltb (open_ways o) (most_before s) ≡ goes_on_at (depth - 1) (get_or parts (depth - 1) 0)
+  abbrev here : ℕ
+  here = get_or K.parts (depth - 1) 0
+
+  goes_on : K.binary ≡ true → ltb (open_ways o) (most_before s) ≡ goes_on_at (depth - 1) here
   goes_on t = rw (ways_here t, place_is, most_by_depth s)
 
-  may_end :
-      K.binary ≡ true
-      → may_close s (open_ways o)
-      ≡ closes_at (depth - 1) (get_or parts (depth - 1) 0)
+  may_end : K.binary ≡ true → may_close s (open_ways o) ≡ closes_at (depth - 1) here
   may_end t = rw (ways_here t, place_is) (close_by_depth s (open_ways o))
 
   fits_before : K.binary ≡ true → fits (o ∷ s) (some d) ≡ true
@@ -239,68 +237,67 @@ module _ {known : List (List ℕ)} {n : ℕ} {o : Open} {s : List Open} {d : Dra
 
   -- where a node is not binary, the names alone are still judged
   unbinary :
-      (K' : Kept) (s' : List Open) (d' : Option Drawing) → K'.binary ≡ false → fits s' d' ≡ false
-      → NamesSaid known n (names_so_far s' d') seen K'.many K'.named
-      → KeptAt known n s' d' K' parts numbers rows chain seen
-  unbinary K' s' d' f unfit names_said = record {
+      (s' : List Open) (d' : Option Drawing) → fits s' d' ≡ false
+      → NamesSaid known n (names_so_far s' d') seen K.many K.named → KeptAt known n s' d' (unfit_kept K) seen
+  unbinary s' d' unfit names_said = record {
     parts_long = A.parts_long;
     numbers_long = A.numbers_long;
     rows_long = A.rows_long;
     chain_long = A.chain_long;
-    fits_is = f ∙ sym unfit;
-    ways_are = λ t. absurd (never t f);
+    fits_is = sym unfit;
+    ways_are = λ t. absurd (never t refl);
     names = names_said;
-    built = λ t _. absurd (never t f);
+    built = λ t _. absurd (never t refl);
   }
 
+  unfit_already : K.binary ≡ false → unfit_kept K ≡ K
+  unfit_already f = rw (← f)
+
   -- A comma, where a node is not binary already.
-  pub comma_unbinary :
-      K.binary ≡ false → KeptAt known n (some (with_part o d) ∷ s) none K parts numbers rows chain seen
+  pub comma_unbinary : K.binary ≡ false → KeptAt known n (some (with_part o d) ∷ s) none K seen
   comma_unbinary f =
-      unbinary K _ none f
-      (fits_comma o s d ∙ rw (sym A.fits_is ∙ f) (and-false (ltb (open_ways o) (most_before s)))) names_added
+      rw (unfit_already f)
+      at (unbinary _ none
+      (fits_comma o s d ∙ rw (sym A.fits_is ∙ f) (and-false (ltb (open_ways o) (most_before s)))) names_added)
 
   -- where the bracket has too many parts
   pub comma_unfit :
-      K.binary ≡ true → goes_on_at (depth - 1) (get_or parts (depth - 1) 0) ≡ false
-      → KeptAt known n (some (with_part o d) ∷ s) none (unfit_kept K) parts numbers rows chain seen
-  unfolding unfit_kept
-  comma_unfit t h = unbinary (unfit_kept K) _ none refl (fits_comma o s d ∙ rw (goes_on t ∙ h)) names_added
+      K.binary ≡ true → goes_on_at (depth - 1) here ≡ false
+      → KeptAt known n (some (with_part o d) ∷ s) none (unfit_kept K) seen
+  comma_unfit t h = unbinary _ none (fits_comma o s d ∙ rw (goes_on t ∙ h)) names_added
 
   -- where it has not
-  module _ (t : K.binary ≡ true) (h : goes_on_at (depth - 1) (get_or parts (depth - 1) 0) ≡ true) where
-    pub part_count_small : get_or parts (depth - 1) 0 < 2
+  module _ (t : K.binary ≡ true) (h : goes_on_at (depth - 1) here ≡ true) where
+    pub part_count_small : here < 2
     part_count_small = small (eqb (depth - 1) 0) h
       where
-        small : (b : Bool) → ltb (get_or parts (depth - 1) 0) (cond b 2 1) ≡ true → get_or parts (depth - 1) 0 < 2
-        small true q = ltb-true (get_or parts (depth - 1) 0) 2 q
-        small false q = omega (arith, ltb-true (get_or parts (depth - 1) 0) 1 q)
+        small : (b : Bool) → ltb here (cond b 2 1) ≡ true → here < 2
+        small true q = ltb-true here 2 q
+        small false q = omega (arith, ltb-true here 1 q)
 
     fits_after : fits (some (with_part o d) ∷ s) none ≡ true
     fits_after = fits_comma o s d ∙ rw (goes_on t ∙ h, fits_before t)
 
     abbrev parts' : List ℕ
-    parts' = set parts (depth - 1) (get_or parts (depth - 1) 0 + 1)
+    parts' = set K.parts (depth - 1) (here + 1)
+
+    parts_long' : length parts' ≡ most_leaves
+    parts_long' = length-set K.parts (depth - 1) (here + 1) ∙ A.parts_long
 
     ways_after : Piled parts' (all_ways (some (with_part o d) ∷ s))
     unfolding open_ways
     ways_after =
         let before = (A.ways_are t).1 in
-        let here : length (all_ways s) ≡ depth - 1 = length-map s open_ways ∙ sym place_is in
-        let put = piled_more parts (all_ways s) (get_or parts (depth - 1) 0 + 1)
-        (omega (arith, here, A.parts_long)) before in
-        let same : get_or parts (depth - 1) 0 + 1 ≡ ways (with_part o d) =
-        rw (ways_here t) (sym (ways_with_part o d)) in
-        let here_put =
-        subst (λ i. Piled (set parts i (get_or parts (depth - 1) 0 + 1))
-        ((get_or parts (depth - 1) 0 + 1) ∷ all_ways s)) here put in
+        let at : length (all_ways s) ≡ depth - 1 = length-map s open_ways ∙ sym place_is in
+        let put = piled_more K.parts (all_ways s) (here + 1) (omega (arith, at, A.parts_long)) before in
+        let same : here + 1 ≡ ways (with_part o d) = rw (ways_here t) (sym (ways_with_part o d)) in
+        let here_put = subst (λ i. Piled (set K.parts i (here + 1)) ((here + 1) ∷ all_ways s)) at put in
         subst (λ w. Piled parts' (w ∷ all_ways s)) same here_put
 
     pub comma_unnamed :
-        K.named ≡ false
-        → KeptAt known n (some (with_part o d) ∷ s) none K parts' numbers rows chain seen
+        K.named ≡ false → KeptAt known n (some (with_part o d) ∷ s) none (with_parts K parts') seen
     comma_unnamed f = record {
-      parts_long = length-set parts (depth - 1) (get_or parts (depth - 1) 0 + 1) ∙ A.parts_long;
+      parts_long = parts_long';
       numbers_long = A.numbers_long;
       rows_long = A.rows_long;
       chain_long = A.chain_long;
@@ -311,41 +308,38 @@ module _ {known : List (List ℕ)} {n : ℕ} {o : Open} {s : List Open} {d : Dra
     }
 
     pub comma_part :
-        (K' : Kept) (numbers' rows' chain' : List ℕ) → K.named ≡ true
-        → PartMade n (depth - 1) (get_or parts (depth - 1) 0) K numbers rows chain K' numbers' rows' chain'
-        → KeptAt known n (some (with_part o d) ∷ s) none K' parts' numbers' rows' chain' seen
-    comma_part K' numbers' rows' chain' u M =
-        let B = part_built K' numbers' rows' chain' t u M in
+        (K' : Kept) → K.named ≡ true → PartMade n (depth - 1) here (with_parts K parts') K'
+        → KeptAt known n (some (with_part o d) ∷ s) none K' seen
+    comma_part K' u M =
+        let B = part_built parts' K' t u M in
         record {
-          parts_long = length-set parts (depth - 1) (get_or parts (depth - 1) 0 + 1) ∙ A.parts_long;
-          numbers_long = B.4;
-          rows_long = B.5;
-          chain_long = B.6;
+          parts_long = rw B.4 parts_long';
+          numbers_long = B.5;
+          rows_long = B.6;
+          chain_long = B.7;
           fits_is = B.1 ∙ t ∙ sym fits_after;
-          ways_are = λ _. ways_after;
+          ways_are = λ _. subst (λ q. Piled q (all_ways (some (with_part o d) ∷ s))) (sym B.4) ways_after;
           names = rw (B.2, B.3) names_added;
           built = λ _ _. B.0;
         }
 
   -- A closing bracket, likewise.
-  pub close_unbinary :
-      K.binary ≡ false → KeptAt known n s (some (bracket (with_part o d))) K parts numbers rows chain seen
+  pub close_unbinary : K.binary ≡ false → KeptAt known n s (some (bracket (with_part o d))) K seen
   close_unbinary f =
-      unbinary K s _ f (fits_closing o s d ∙ rw (sym A.fits_is ∙ f) (and-false (may_close s (open_ways o))))
-      names_closed
+      rw (unfit_already f)
+      at (unbinary s _
+      (fits_closing o s d ∙ rw (sym A.fits_is ∙ f) (and-false (may_close s (open_ways o)))) names_closed)
 
   pub close_unfit :
-      K.binary ≡ true → closes_at (depth - 1) (get_or parts (depth - 1) 0) ≡ false
-      → KeptAt known n s (some (bracket (with_part o d))) (unfit_kept K) parts numbers rows chain seen
-  unfolding unfit_kept
-  close_unfit t h = unbinary (unfit_kept K) s _ refl (fits_closing o s d ∙ rw (may_end t ∙ h)) names_closed
+      K.binary ≡ true → closes_at (depth - 1) here ≡ false
+      → KeptAt known n s (some (bracket (with_part o d))) (unfit_kept K) seen
+  close_unfit t h = unbinary s _ (fits_closing o s d ∙ rw (may_end t ∙ h)) names_closed
 
-  module _ (t : K.binary ≡ true) (h : closes_at (depth - 1) (get_or parts (depth - 1) 0) ≡ true) where
+  module _ (t : K.binary ≡ true) (h : closes_at (depth - 1) here ≡ true) where
     fits_closed : fits s (some (bracket (with_part o d))) ≡ true
     fits_closed = fits_closing o s d ∙ rw (may_end t ∙ h, fits_before t)
 
-    pub close_unnamed :
-        K.named ≡ false → KeptAt known n s (some (bracket (with_part o d))) K parts numbers rows chain seen
+    pub close_unnamed : K.named ≡ false → KeptAt known n s (some (bracket (with_part o d))) K seen
     close_unnamed f = record {
       parts_long = A.parts_long;
       numbers_long = A.numbers_long;
@@ -358,120 +352,86 @@ module _ {known : List (List ℕ)} {n : ℕ} {o : Open} {s : List Open} {d : Dra
     }
 
     pub close_part :
-        (K' : Kept) (numbers' rows' chain' : List ℕ) → K.named ≡ true
-        → PartMade n (depth - 1) (get_or parts (depth - 1) 0) K numbers rows chain K' numbers' rows' chain'
-        → KeptAt known n s (some (bracket (with_part o d))) (closed_kept K' (get_or numbers' (depth - 1) 0)) parts
-        numbers' rows' chain' seen
-    close_part K' numbers' rows' chain' u M =
-        let B = part_built K' numbers' rows' chain' t u M in
+        (K' : Kept) → K.named ≡ true → PartMade n (depth - 1) here K K'
+        → KeptAt known n s (some (bracket (with_part o d))) (closed_kept K' (get_or K'.numbers (depth - 1) 0)) seen
+    close_part K' u M =
+        let B = part_built K.parts K' t u M in
         record {
-          parts_long = A.parts_long;
-          numbers_long = B.4;
-          rows_long = B.5;
-          chain_long = B.6;
+          parts_long = rw B.4 A.parts_long;
+          numbers_long = B.5;
+          rows_long = B.6;
+          chain_long = B.7;
           fits_is = B.1 ∙ t ∙ sym fits_closed;
-          ways_are = λ q. (A.ways_are t).1;
+          ways_are = λ q. rw B.4 (A.ways_are t).1;
           names = rw (B.2, B.3) names_closed;
-          built = λ _ _. closed_built (with_part o d) K' numbers' rows' chain' B.0;
+          built = λ _ _. closed_built (with_part o d) K' B.0;
         }
       where
         closed_built :
-            (q : Parts) (K' : Kept) (numbers' rows' chain' : List ℕ)
-            → Built known n (some q ∷ s) none K' numbers' rows' chain' seen
-            → Built known n s (some (bracket q)) (closed_kept K' (get_or numbers' (depth - 1) 0)) numbers' rows' chain'
-            seen
-        closed_built q K' numbers' rows' chain' B =
-            let f = subtree_at n (rows_made K' rows') in
+            (q : Parts) (K' : Kept) → Built known n (some q ∷ s) none K' seen
+            → Built known n s (some (bracket q)) (closed_kept K' (get_or K'.numbers (depth - 1) 0)) seen
+        closed_built q K' B =
+            let f = subtree_at n (rows_made K'.joined) in
             let r = head_and_tail B.of_opens (length s)
-            (opens_length known f (chain_kept K' chain') (some q ∷ s) B.of_opens B.keeps.opens) in
+            (opens_length known f (chain_kept K'.joined) (some q ∷ s) B.of_opens B.keeps.opens) in
             let k = rw r.2 at B.keeps in
             let p = rw r.2 at B.opens_held in
-            let here : get_or numbers' (depth - 1) 0 ≡ r.0 =
-            rw place_is (first_held numbers' B.of_opens r.1 r.0 (length s) r.2 r.3 B.opens_held) in
+            let there : get_or K'.numbers (depth - 1) 0 ≡ r.0 =
+            rw place_is (first_held K'.numbers B.of_opens r.1 r.0 (length s) r.2 r.3 B.opens_held) in
             record {
               of_opens = r.1;
               keeps =
-                  rw here
-                  (keeps_close known n z s r.1 K'.last K'.rows (rows_made K' rows') (chain_kept K' chain')
+                  rw there
+                  (keeps_close known n z s r.1 K'.last K'.joined.made (rows_made K'.joined) (chain_kept K'.joined)
                   seen q r.0 k);
               opens_held = p.1;
             }
 
 -- A bracket opens.
 pub opened :
-    {known : List (List ℕ)} {n : ℕ} {s : List Open} {K : Kept} {parts numbers rows chain : List ℕ} {seen : ℕ → Bool}
-    → 0 < n → (depth : ℕ) → depth < most_leaves → depth ≡ length s
-    → KeptAt known n s none K parts numbers rows chain seen
-    → KeptAt known n (none ∷ s) none K (set parts depth 0) numbers rows chain seen
+    {known : List (List ℕ)} {n : ℕ} {s : List Open} {K : Kept} {seen : ℕ → Bool} → 0 < n → (depth : ℕ)
+    → depth < most_leaves → depth ≡ length s → KeptAt known n s none K seen
+    → KeptAt known n (none ∷ s) none (with_parts K (set K.parts depth 0)) seen
 unfolding open_ways
-opened {known} {n} {s} {K} {parts} {numbers} {rows} {chain} {seen} z depth low deep A = record {
-  parts_long = length-set parts depth 0 ∙ A.parts_long;
+opened {known} {n} {s} {K} {seen} z depth low deep A = record {
+  parts_long = length-set K.parts depth 0 ∙ A.parts_long;
   numbers_long = A.numbers_long;
   rows_long = A.rows_long;
   chain_long = A.chain_long;
   fits_is = A.fits_is ∙ sym (fits_opening s);
   ways_are = λ t.
       let here : length (all_ways s) ≡ depth = length-map s open_ways ∙ sym deep in
-      let put = piled_more parts (all_ways s) 0 (omega (arith, here, A.parts_long)) (A.ways_are t) in
-      subst (λ i. Piled (set parts i 0) (0 ∷ all_ways s)) here put;
+      let put = piled_more K.parts (all_ways s) 0 (omega (arith, here, A.parts_long)) (A.ways_are t) in
+      subst (λ i. Piled (set K.parts i 0) (0 ∷ all_ways s)) here put;
   names = rw (names_opening s) A.names;
   built = λ t u. wider (A.built t u);
 }
   where
     wider :
-        Built known n s none K numbers rows chain seen → Built known n (none ∷ s) none K numbers rows chain seen
+        Built known n s none K seen → Built known n (none ∷ s) none (with_parts K (set K.parts depth 0)) seen
     wider B =
-        let f = subtree_at n (rows_made K rows) in
-        let a = get_or numbers (length B.of_opens) 0 in
+        let a = get_or K.numbers (length B.of_opens) 0 in
         record {
           of_opens = a ∷ B.of_opens;
           keeps =
-              keeps_open known n z s B.of_opens K.last K.rows (rows_made K rows) (chain_kept K chain) seen a
+              keeps_open known n z s B.of_opens K.last K.joined.made (rows_made K.joined) (chain_kept K.joined) seen a
               B.keeps;
           opens_held = (refl, B.opens_held);
         }
 
--- The ways out of `part`, and the small tests.
-pub part_first :
-    {n place c : ℕ} {K : Kept} {numbers rows chain : List ℕ} → c ≡ 0
-    → PartMade n place c K numbers rows chain K (set numbers place K.last) rows chain
-part_first e = record { first = λ _. (refl, refl, refl, refl); more = λ d. absurd (d e) }
-
-pub part_more :
-    {n place c : ℕ} {K : Kept} {numbers rows chain rows' chain' : List ℕ} {r : Joined} → c ≢ 0
-    → Joins n (get_or numbers place 0) K.last K.rows K.chained rows chain rows' chain' r
-    → PartMade n place c K numbers rows chain (joined_kept K r) (set numbers place r.number) rows' chain'
-part_more {r = r} d j = record { first = λ e. absurd (d e); more = λ _. (r, j, refl, refl) }
-
-pub at_top : (place c : ℕ) → place ≡ 0 → ltb c 2 ≡ goes_on_at place c
-at_top place c e = rw e
-
-pub below_top : (place c : ℕ) → place ≢ 0 → ltb c 1 ≡ goes_on_at place c
-below_top place c d = rw (ne_eqb place 0 d)
-
-pub closes_top :
-    (place c : ℕ) → place ≡ 0 → 1 ≤ c → leb c 2 ≡ closes_at place c
-closes_top place c e h = rw (e, le-leb 1 c h)
-
-pub empty_top : (place c : ℕ) → place ≡ 0 → c < 1 → leb 1 c ≡ closes_at place c
-empty_top place c e h = rw (e, lt-leb 1 c h)
-
-pub closes_below : (place c : ℕ) → place ≢ 0 → eqb c 1 ≡ closes_at place c
-closes_below place c d = rw (ne_eqb place 0 d)
-
 -- The ways out of `bracket`.
-module _ {b n depth : ℕ} {K : Kept} {parts numbers rows chain : List ℕ} where
+module _ {b n depth : ℕ} {K : Kept} where
   pub came_opening :
       IsLeafCount n → depth < most_leaves → b ≡ opening
-      → Came b n depth K parts numbers rows chain K (set parts depth 0) numbers rows chain
+      → Came b n depth K (with_parts K (set K.parts depth 0))
   unfolding opens_of last_of
   came_opening count low e known s d Q seen deep A M =
       let r = M.by_opening e in
       rw r.2 (opened (omega (arith, count.0)) depth low deep (rw r.0 at A))
 
   part_ends :
-      (C : Comes b n depth K parts numbers rows chain) (o : Open) (s : List Open) (d : Drawing) → C.opens ≡ o ∷ s
-      → C.last ≡ some d → PartEnds n depth K parts numbers rows chain
+      (C : Comes b n depth K) (o : Open) (s : List Open) (d : Drawing) → C.opens ≡ o ∷ s
+      → C.last ≡ some d → PartEnds n depth K
   part_ends C o s d e q =
       let A = C.kept in
       record {
@@ -486,33 +446,25 @@ module _ {b n depth : ℕ} {K : Kept} {parts numbers rows chain : List ℕ} wher
         kept = rw (e, q) at A;
       }
 
-  pub comma_ends : b ≡ comma → Comes b n depth K parts numbers rows chain → PartEnds n depth K parts numbers rows chain
+  pub comma_ends : b ≡ comma → Comes b n depth K → PartEnds n depth K
   comma_ends e C = let r = C.moved.by_comma e in part_ends C r.0 r.1 r.2 r.3 r.4
 
-  pub closing_ends :
-      b ≡ closing → Comes b n depth K parts numbers rows chain → PartEnds n depth K parts numbers rows chain
+  pub closing_ends : b ≡ closing → Comes b n depth K → PartEnds n depth K
   closing_ends e C = let r = C.moved.by_closing e in part_ends C r.0 r.1 r.2 r.3 r.4
 
-  pub came_comma :
-      {K' : Kept} {parts' numbers' rows' chain' : List ℕ} → b ≡ comma
-      → PartAdded n depth K parts numbers rows chain K' parts' numbers' rows' chain'
-      → Came b n depth K parts numbers rows chain K' parts' numbers' rows' chain'
+  pub came_comma : {K' : Kept} → b ≡ comma → PartAdded n depth K K' → Came b n depth K K'
   unfolding opens_of last_of
   came_comma e added known s d Q seen deep A M =
       let r = M.by_comma e in
       rw r.5 (added known r.0 r.1 r.2 seen (deep ∙ rw r.3) (rw (r.3, r.4) at A))
 
-  pub came_closing :
-      {K' : Kept} {numbers' rows' chain' : List ℕ} → b ≡ closing
-      → BracketClosed n depth K parts numbers rows chain K' numbers' rows' chain'
-      → Came b n depth K parts numbers rows chain K' parts numbers' rows' chain'
+  pub came_closing : {K' : Kept} → b ≡ closing → BracketClosed n depth K K' → Came b n depth K K'
   unfolding opens_of last_of
   came_closing e closed known s d Q seen deep A M =
       let r = M.by_closing e in
       rw r.5 (closed known r.0 r.1 r.2 seen (deep ∙ rw r.3) (rw (r.3, r.4) at A))
 
-  pub came_another :
-      b ≢ opening → b ≢ comma → b ≢ closing → Came b n depth K parts numbers rows chain K parts numbers rows chain
+  pub came_another : b ≢ opening → b ≢ comma → b ≢ closing → Came b n depth K K
   came_another p q r known s d Q seen deep A M =
       let m = M.by_another (ne_eqb b opening p) (ne_eqb b comma q) (ne_eqb b closing r) in
       rw (m.0, m.1) A

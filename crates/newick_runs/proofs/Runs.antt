@@ -15,24 +15,6 @@ use Rattle.newick_rules.specs.Reader.{blank, length_byte}
 use Rattle.newick_runs.specs.declared.Run.{Run}
 use Rattle.newick_runs.specs.inner.Runs.{stays, hash_over, Passed, Named, Ran}
 
--- The ways out of `keeps_state`.
-module _ (state b : ℕ) where
-  pub in_length : state ≡ 5 → length_byte b ≡ stays state b
-  unfolding stays
-  in_length e = rw e
-
-  pub in_name : state ≢ 5 → state ≡ 1 → false ≡ stays state b
-  unfolding stays
-  in_name d e = rw (ne_eqb state 5 d, e)
-
-  pub at_length : state ≢ 5 → state ≢ 1 → state ≡ 4 → false ≡ stays state b
-  unfolding stays
-  at_length d d' e = rw (ne_eqb state 5 d, ne_eqb state 1 d', e)
-
-  pub elsewhere : state ≢ 5 → state ≢ 1 → state ≢ 4 → blank b ≡ stays state b
-  unfolding stays
-  elsewhere d d' d'' = rw (ne_eqb state 5 d, ne_eqb state 1 d', ne_eqb state 4 d'')
-
 -- Bytes that pass a test.
 pub passed_none : {f : ℕ → Bool} {t : List ℕ} (k : ℕ) → k ≤ length t → Passed f t k k
 passed_none k h = record { low = omega arith; high = h; each = λ j a b. absurd (omega arith) }
@@ -73,12 +55,3 @@ named_more {t} {k} {hash} {j} {h} N l e h' is s = record {
   hash_is = is ∙ rw (N.hash_is, N.end);
   small = s;
 }
-
--- Both.
-pub ran_name : {state : ℕ} {t : List ℕ} {k hash : ℕ} {r : Run} → state ≡ 1 → Named t k hash r → Ran state t k hash r
-ran_name e N = record { names = λ _. N; others = λ d. absurd (d e) }
-
-pub ran_other :
-    {state : ℕ} {t : List ℕ} {k hash r : ℕ} → state ≢ 1 → Passed (stays state) t k r
-    → Ran state t k hash (record { to = r; hash = hash })
-ran_other d P = record { names = λ e. absurd (d e); others = λ _. (P, refl) }

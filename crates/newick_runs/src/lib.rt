@@ -4,11 +4,12 @@
 
 ghost use Rattle.std.specs.Prelude.{◌≡◌, ◌≤◌, ◌<◌, length};
 ghost use Rattle.name_index.specs.inner.Hashes.{hashes};
+ghost use Rattle.newick_states.specs.inner.States.{number_of};
 ghost use Rattle.newick_runs.specs.inner.Runs.{stays, Passed, Named, Ran};
 
 use name_checks::is_name_byte;
 use name_index::hash_byte;
-use newick_states::{AT_LENGTH, IN_LENGTH, IN_NAME, is_blank, is_length_byte};
+use newick_states::{State, is_blank, is_length_byte};
 
 // The byte behind a run, and the hash of the name that it may be in.
 #[derive(Clone, Copy)]
@@ -18,35 +19,28 @@ pub struct Run {
 }
 
 // Whether a byte leaves the reader where it is, in a state that is in no name.
-fn keeps_state(state: u8, b: u8) -> bool
-    ensures { result ≡ stays state b }
+#[tactic(auto, unfolding(crate::specs::inner::Runs::stays))]
+fn keeps_state(state: State, b: u8) -> bool
+    ensures { result ≡ stays (number_of state) b }
 {
-    if state == IN_LENGTH {
-        return is_length_byte(b);
+    match state {
+        State::InLength => is_length_byte(b),
+        State::InName | State::AtLength => false,
+        _ => is_blank(b),
     }
-    if state == IN_NAME {
-        return false;
-    }
-    if state == AT_LENGTH {
-        return false;
-    }
-    is_blank(b)
 }
 
 // The first byte from k on that does not.
-fn skip(text: &[u8], state: u8, k: usize) -> usize
+fn skip(text: &[u8], state: State, k: usize) -> usize
     requires { k ≤ length text.now }
-    ensures { Passed (stays state) text.now k result }
+    ensures { Passed (stays (number_of state)) text.now k result }
 {
-    let mut j: usize = k;
-    while j < text.len() {
-        let b = text[j];
-        if !keeps_state(state, b) {
+    for j in k..text.len() {
+        if !keeps_state(state, text[j]) {
             return j;
         }
-        j += 1;
     }
-    j
+    text.len()
 }
 
 // The first byte from k on that is no part of a name, and the name's hash behind the bytes before it.
@@ -54,29 +48,30 @@ fn skip_name(text: &[u8], k: usize, hash: u64) -> Run
     requires { (k ≤ length text.now) × (hash < hashes) }
     ensures { Named text.now k hash result }
 {
-    let mut h: u64 = hash;
-    let mut j: usize = k;
-    while j < text.len() {
+    let mut h = hash;
+    for j in k..text.len() {
         let b = text[j];
         if !is_name_byte(b) {
             return Run { to: j, hash: h };
         }
         h = hash_byte(h, b);
-        j += 1;
     }
-    Run { to: j, hash: h }
+    Run {
+        to: text.len(),
+        hash: h,
+    }
 }
 
 // Where the run from byte k on ends, in this state. For the crates above.
-pub fn run_on(text: &[u8], state: u8, k: usize, hash: u64) -> Run
+pub fn run_on(text: &[u8], state: State, k: usize, hash: u64) -> Run
     requires { (k ≤ length text.now) × (hash < hashes) }
-    ensures { Ran state text.now k hash result }
+    ensures { Ran (number_of state) text.now k hash result }
 {
-    if state == IN_NAME {
-        return skip_name(text, k, hash);
-    }
-    Run {
-        to: skip(text, state, k),
-        hash,
+    match state {
+        State::InName => skip_name(text, k, hash),
+        _ => Run {
+            to: skip(text, state, k),
+            hash,
+        },
     }
 }

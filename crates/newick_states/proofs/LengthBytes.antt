@@ -4,6 +4,7 @@ use mathlib.Core.Logic.{◌≢◌}
 use mathlib.Core.Bool.{Bool, false, ◌&&◌, and-false}
 use Prim.Native.Nat.{ℕ, ◌+◌, ◌-◌, ◌/◌, ◌^◌, ◌≤◌, ◌<◌}
 use native.Mathlib.Omega.{arith}
+use native.Mathlib.Decide.{dec_lt}
 use borrow.Author.Tests.{ne_eqb, lt-leb}
 use lib.Bits.{bit_and}
 use lib.Dec.{leb, eqb}
@@ -42,8 +43,10 @@ module _ (b : ℕ) where
         ne_eqb b 101 (n 101 (omega arith) (omega arith)),
       )
 
-  pub length_below : b < 43 → false ≡ length_byte b
-  length_below l = outside (rw (lt-leb 48 b (omega arith))) (λ v h k. omega arith)
-
-  pub length_above : 101 < b → false ≡ length_byte b
-  length_above l = outside (rw (lt-leb b 57 (omega arith), and-false)) (λ v h k. omega arith)
+  pub length_outside : (43 ≤ b → 101 < b) → false ≡ length_byte b
+  length_outside l = elim (dec_lt b 43) [
+    | yes low ↦ outside (rw (lt-leb 48 b (omega arith))) (λ v h k. omega arith)
+    | no d ↦
+        let high : 101 < b = l (omega arith) in
+        outside (rw (lt-leb b 57 (omega arith), and-false)) (λ v h k. omega arith)
+  ]

@@ -1,5 +1,6 @@
 -- What reading answers: 17 where a text breaks; else 18 and 19 by what is kept of it; else rows and a chain that make a
 -- listing of the tree that it draws.
+use Rattle.std.specs.Prelude.{Result, Ok, Err}
 use mathlib.Core.Path.{◌≡◌, refl, ap, sym, ◌∙◌}
 use mathlib.Core.Logic.{inl, inr}
 use mathlib.Core.Bool.{Bool, true, ◌&&◌}
@@ -15,9 +16,8 @@ use Rattle.base.proofs.Counts.{count_full}
 use Rattle.limits.specs.Limits.{most_leaves, most_numbers, IsLeafCount}
 use Rattle.refusals.specs.declared.Refusal.{Refusal}
 use Rattle.refusals.specs.declared.Refusal.TheVariants.{Grammar, NotBinary, Unmatched}
-use Rattle.refusals.specs.declared.Outcome.TheVariants.{Done, Refused}
-use Rattle.refusals.specs.Refusals.{refuse, judged, outcome, outcome_of}
-use Rattle.refusals.proofs.Answers.{refuse_none, judged_none, outcome_answered, done_none}
+use Rattle.refusals.specs.Refusals.{Outcome, refuse, judged, outcome, outcome_of}
+use Rattle.refusals.proofs.Answers.{refuse_none, judged_none, outcome_answered, done_none, HandsOn, handed_on}
 use Rattle.trees.specs.Trees.{Tree}
 use Rattle.trees.specs.Listings.{standard, subtree_at}
 use Rattle.trees.specs.Rerooting.{rerooted}
@@ -35,22 +35,18 @@ use Rattle.newick_reading.proofs.Fitting.{fits_end}
 use Rattle.newick_reading.proofs.Naming.{wrong_judged, right_judged}
 use Rattle.newick_reading.proofs.Finishing.{whole_accounted, whole_stands}
 use Rattle.newick_parts.specs.declared.Kept.{Kept}
-use Rattle.newick_parts.specs.inner.Keeping.{rows_made, chain_kept, Built, KeptAt}
+use Rattle.rerooted_rows.specs.inner.Arrays.{rows_made, chain_kept}
+use Rattle.newick_parts.specs.inner.Keeping.{Built, KeptAt}
+use Rattle.rerooted_rows.specs.declared.Rerooting.{Rerooting}
 use Rattle.newick_text.specs.inner.Names.{flags}
 use Rattle.newick_text.specs.inner.Texts.{kept_refusal, Drawn, ReadSays}
 
-pub refused_not_done : (r : Refusal) → Refused r ≡ Done → ⊥
-refused_not_done r e = let z : ◌≡◌ {A = ℕ} 0 1 = cc in omega arith
-
 -- 17
 pub grammar_says :
-    {S t : List ℕ} {n k : ℕ} {rows chain : List ℕ} → read deepest t ≡ breaks k
-    → ReadSays S t n rows chain (record { outcome = Refused (Grammar k); rows = 0; chained = 0 })
+    (known : List (List ℕ)) (t : List ℕ) {k : ℕ} → read deepest t ≡ breaks k
+    → outcome (imported known t) ≡ Err (Grammar k)
 unfolding imported outcome
-grammar_says {k = k} h = record {
-  outcome_is = rw (h, imported);
-  drawn = λ e. absurd (refused_not_done (Grammar k) e);
-}
+grammar_says known t h = rw (h, imported)
 
 -- a drawing whose nodes are binary, apart from a three-way top, is a bracket of two parts or more
 top_parts : (d : Drawing) → binary_top d ≡ true → (p : Parts) × (e : Drawing) × (d ≡ bracket (more p e))
@@ -71,9 +67,9 @@ keeps_same :
     → Keeps known n [] (some d') l' last m rows chain seen
 keeps_same e f K = rw (e, f) at K
 
-module _ (S t : List ℕ) {n : ℕ} {K : Kept} {parts numbers : List ℕ} (seen : List Bool) {rows chain : List ℕ}
+module _ (S t : List ℕ) {n : ℕ} {K : Kept} (seen : List Bool)
     (d : Drawing) (count : IsLeafCount n) (strains : Strains n (names_of S)) (reads : read deepest t ≡ draws d)
-    (A : KeptAt (names_of S) n [] (some d) K parts numbers rows chain (flags seen)) where
+    (A : KeptAt (names_of S) n [] (some d) K (flags seen)) where
   abbrev known : List (List ℕ)
   known = names_of S
 
@@ -109,7 +105,7 @@ module _ (S t : List ℕ) {n : ℕ} {K : Kept} {parts numbers : List ℕ} (seen 
         let q = and_both K.named (eqb K.many n) (refuse_none _ Unmatched s.0) in
         (refuse_none K.binary NotBinary r.0, q.0, eqb-true K.many n q.1)
 
-    built : Built (names_of S) n [] (some d) K numbers rows chain (flags seen)
+    built : Built (names_of S) n [] (some d) K (flags seen)
     built = A.built both_passed.0 both_passed.1
 
     all_seen : (k : ℕ) → k < n → flags seen k ≡ true
@@ -121,44 +117,44 @@ module _ (S t : List ℕ) {n : ℕ} {K : Kept} {parts numbers : List ℕ} (seen 
 
     -- what is kept of the whole text
     keeps_whole :
-        Keeps (names_of S) n [] (some (bracket (more shape.0 shape.1))) [] K.last K.rows (rows_made K rows)
-        (chain_kept K chain) (flags seen)
+        Keeps (names_of S) n [] (some (bracket (more shape.0 shape.1))) [] K.last K.joined.made (rows_made K.joined)
+        (chain_kept K.joined) (flags seen)
     keeps_whole =
-        let none_left = none_open known (subtree_at n (rows_made K rows)) (chain_kept K chain) built.of_opens
+        let none_left = none_open known (subtree_at n (rows_made K.joined)) (chain_kept K.joined) built.of_opens
         built.keeps.opens in
         keeps_same shape.2 none_left built.keeps
 
     big : 3 ≤ n
     big = count.0
 
-    pub drawn : Drawn (names_of S) n t K.rows K.chained rows chain
+    pub drawn : Drawn (names_of S) n t K.joined
     unfolding subtree
     drawn =
-        let W = whole_accounted n big (flags seen) all_seen known shape.0 shape.1 K.last K.rows
-        (rows_made K rows) (chain_kept K chain) keeps_whole in
-        let st = whole_stands n big (flags seen) all_seen known shape.0 shape.1 K.last K.rows
-        (rows_made K rows) (chain_kept K chain) keeps_whole in
+        let W = whole_accounted n big (flags seen) all_seen known shape.0 shape.1 K.last K.joined.made
+        (rows_made K.joined) (chain_kept K.joined) keeps_whole in
+        let st = whole_stands n big (flags seen) all_seen known shape.0 shape.1 K.last K.joined.made
+        (rows_made K.joined) (chain_kept K.joined) keeps_whole in
         let P = subtree_of_parts known shape.0 in
         let Q = subtree known shape.1 in
-        let q = chain_listing n K.rows K.chained rows chain (flags seen) count lr lc all_seen W P Q st in
+        let q = chain_listing n K.joined (flags seen) count lr lc all_seen W P Q st in
         record {
           drawing = d;
           read_is = reads;
-          room = chain_fits n K.rows K.chained rows chain (flags seen) count lr lc all_seen W P Q st;
+          room = chain_fits n K.joined (flags seen) count lr lc all_seen W P Q st;
           keeps = q.0;
           tree = q.1 ∙ ap (λ e. rerooted (subtree known e)) (sym shape.2);
         }
       where
-        lr : length rows ≡ most_numbers
+        lr : length K.joined.rows ≡ most_numbers
         lr = A.rows_long
 
-        lc : length chain ≡ most_leaves
+        lc : length K.joined.chain ≡ most_leaves
         lc = A.chain_long
 
   -- 18, 19, or the rows and the chain
-  pub kept_says : ReadSays S t n rows chain
-      (record { outcome = outcome_of (kept_refusal n K); rows = K.rows; chained = K.chained })
-  kept_says = record {
-    outcome_is = answer_is;
-    drawn = λ e. drawn (done_none (kept_refusal n K) e);
-  }
+  module _ {q : Outcome} (told : q ≡ outcome_of (kept_refusal n K)) where
+    pub kept_stopped : {e : Refusal} (r : Result Rerooting Refusal) → q ≡ Err e → HandsOn r e → ReadSays S t n r
+    kept_stopped r h p = rw (handed_on _ p) (sym answer_is ∙ sym told ∙ h)
+
+    pub kept_made : q ≡ Ok tt → ReadSays S t n (Ok K.joined)
+    kept_made h = (sym answer_is ∙ sym told ∙ h, drawn (done_none (kept_refusal n K) (sym told ∙ h)))

@@ -51,19 +51,18 @@ no_name (at_length s e) t from k hash from' k' hash' d h = tt
 no_name (in_length s e) t from k hash from' k' hash' d h = tt
 no_name (ended e) t from k hash from' k' hash' d h = tt
 
-module _ {S t : List ℕ} {n state depth from : ℕ} {K : Kept} {parts numbers : List ℕ} {seen : List Bool}
-    {rows chain : List ℕ} where
+module _ {S t : List ℕ} {n state depth from : ℕ} {K : Kept} {seen : List Bool} where
   -- places and hashes that are the same
   read_same :
       {k k' hash hash' : ℕ} → k ≡ k' → hash ≡ hash'
-      → ReadTo S t n state depth from hash k K parts numbers seen rows chain
-      → ReadTo S t n state depth from hash' k' K parts numbers seen rows chain
+      → ReadTo S t n state depth from hash k K seen
+      → ReadTo S t n state depth from hash' k' K seen
   read_same e f R = rw (e, f) at R
 
   one_stays :
       (k hash : ℕ) → k < length t → stays state (get_or t k 0) ≡ true
-      → ReadTo S t n state depth from hash k K parts numbers seen rows chain
-      → ReadTo S t n state depth from hash (k + 1) K parts numbers seen rows chain
+      → ReadTo S t n state depth from hash k K seen
+      → ReadTo S t n state depth from hash (k + 1) K seen
   unfolding read_on
   one_stays k hash l h R =
       let s = stays_there R.place (get_or t k 0) (rw R.state_is h) in
@@ -84,8 +83,8 @@ module _ {S t : List ℕ} {n state depth from : ℕ} {K : Kept} {parts numbers :
 
   stays_on :
       (many k hash : ℕ) → Passed (stays state) t k (k + many)
-      → ReadTo S t n state depth from hash k K parts numbers seen rows chain
-      → ReadTo S t n state depth from hash (k + many) K parts numbers seen rows chain
+      → ReadTo S t n state depth from hash k K seen
+      → ReadTo S t n state depth from hash (k + many) K seen
   stays_on zero k hash P R = read_same (sym (add-zero k)) refl R
   stays_on (suc many) k hash P R =
       let next : (k + many) + 1 ≡ k + suc many = omega arith in
@@ -97,8 +96,8 @@ module _ {S t : List ℕ} {n state depth from : ℕ} {K : Kept} {parts numbers :
   -- one more byte of a name
   one_named :
       (k hash : ℕ) → state ≡ 1 → k < length t → name_byte (get_or t k 0) ≡ true
-      → ReadTo S t n state depth from hash k K parts numbers seen rows chain
-      → ReadTo S t n state depth from (hash_step hash (get_or t k 0)) (k + 1) K parts numbers seen rows chain
+      → ReadTo S t n state depth from hash k K seen
+      → ReadTo S t n state depth from (hash_step hash (get_or t k 0)) (k + 1) K seen
   unfolding state_of step read_on opens_of last_of hash_from
   one_named k hash e l h R =
       go R.place R.state_is R.depth_is R.inside R.reads_on R.name_so_far R.kept
@@ -106,8 +105,8 @@ module _ {S t : List ℕ} {n state depth from : ℕ} {K : Kept} {parts numbers :
       go :
           (P : Place) → state_of P ≡ state → depth ≡ length (opens_of P) → NamesInside P
           → read_on deepest P k (drop k t) ≡ read deepest t → NameSoFar P t from k hash
-          → KeptAt (names_of S) n (opens_of P) (last_of P) K parts numbers rows chain (flags seen)
-          → ReadTo S t n state depth from (hash_step hash (get_or t k 0)) (k + 1) K parts numbers seen rows chain
+          → KeptAt (names_of S) n (opens_of P) (last_of P) K (flags seen)
+          → ReadTo S t n state depth from (hash_step hash (get_or t k 0)) (k + 1) K seen
       go (in_name s x) st dp i on name kept =
           let b = get_or t k 0 in
           let there : step deepest (in_name s x) b ≡ some (in_name s (x ++ (b ∷ []))) = rw h in
@@ -138,8 +137,8 @@ module _ {S t : List ℕ} {n state depth from : ℕ} {K : Kept} {parts numbers :
 
   names_on :
       (many k hash : ℕ) → state ≡ 1 → Passed name_byte t k (k + many)
-      → ReadTo S t n state depth from hash k K parts numbers seen rows chain
-      → ReadTo S t n state depth from (hash_over t k many hash) (k + many) K parts numbers seen rows chain
+      → ReadTo S t n state depth from hash k K seen
+      → ReadTo S t n state depth from (hash_over t k many hash) (k + many) K seen
   unfolding hash_over
   names_on zero k hash e P R = read_same (sym (add-zero k)) refl R
   names_on (suc many) k hash e P R =
@@ -153,8 +152,8 @@ module _ {S t : List ℕ} {n state depth from : ℕ} {K : Kept} {parts numbers :
   -- a run
   pub ran_on :
       {k hash : ℕ} (r : Run) → Ran state t k hash r
-      → ReadTo S t n state depth from hash k K parts numbers seen rows chain
-      → ReadTo S t n state depth from r.hash r.to K parts numbers seen rows chain
+      → ReadTo S t n state depth from hash k K seen
+      → ReadTo S t n state depth from r.hash r.to K seen
   ran_on {k} {hash} r X R = elim (ℕ_discrete state 1) [
     | yes e ↦
         let N = X.names e in

@@ -1,7 +1,7 @@
 -- A name of a text that ends is looked up, and what is kept says so: the name is wrong, or its leaf is the last
 -- drawing.
 use mathlib.Core.Path.{◌≡◌, refl, sym, ◌∙◌}
-use mathlib.Core.Logic.{inl, inr, ◌≢◌}
+use mathlib.Core.Logic.{inl, inr}
 use mathlib.Core.Bool.{Bool, true, false, ◌||◌}
 use mathlib.Core.List.{List, [], ◌∷◌, ◌++◌}
 use mathlib.Core.Option.{none, some}
@@ -12,10 +12,10 @@ use borrow.Author.Tests.{ne_eqb}
 use lib.Dec.{eqb}
 use lib.ListN.{length, get_or, set, length-set}
 use lib.Seq.{get_or-set_same, get_or-set_other}
-use Rattle.base.specs.Lists.{tab}
 use Rattle.base.proofs.Bools.{bool?, never, eqb_same}
 use Rattle.limits.specs.Limits.{most_leaves}
-use Rattle.sheet_rules.specs.Sheets.{same, name, leaf_named, names_of}
+use Rattle.sheet_rules.specs.Sheets.{same, leaf_named, names_of}
+use Rattle.name_index.specs.inner.Indexes.{FirstNames, names_in}
 use Rattle.newick_rules.specs.Drawings.{name as named_drawing}
 use Rattle.newick_rules.specs.Reader.{Open, inside}
 use Rattle.newick_reading.specs.inner.Naming.{names_so_far, Wrong}
@@ -23,15 +23,15 @@ use Rattle.newick_reading.proofs.Fitting.{fits_name}
 use Rattle.newick_reading.proofs.Naming.{names_name, still_wrong, unknown_wrong, again_wrong, right_more}
 use Rattle.newick_reading.proofs.Joining.{keeps_name}
 use Rattle.newick_parts.specs.declared.Kept.{Kept}
-use Rattle.newick_parts.specs.inner.Keeping.{rows_made, chain_kept, Built, KeptAt}
-use Rattle.newick_text.specs.inner.Names.{flags, misnamed_kept, named_kept, Indexed, NameTaken, NameEnded}
+use Rattle.rerooted_rows.specs.inner.Arrays.{rows_made, chain_kept}
+use Rattle.newick_parts.specs.inner.Keeping.{Built, KeptAt}
+use Rattle.newick_text.specs.inner.Names.{flags, misnamed_kept, named_kept, Indexed, NameTaken}
 
 -- the index has the names of the sheet
 pub leaf_of_sheet :
-    {S : List ℕ} {n : ℕ} {heads before starts : List ℕ} → Indexed S n heads before starts → (x : List ℕ)
-    → leaf_named (tab n (name S)) x ≡ leaf_named (names_of S) x
+    (x : FirstNames) → Indexed x → (y : List ℕ) → leaf_named (names_in x) y ≡ leaf_named (names_of x.sheet) y
 unfolding names_of
-leaf_of_sheet I x = rw I.leaves
+leaf_of_sheet x I y = rw I
 
 leaf_named_le : (known : List (List ℕ)) (x : List ℕ) → leaf_named known x ≤ length known
 unfolding leaf_named
@@ -77,50 +77,28 @@ module _ {known : List (List ℕ)} {n : ℕ} {x : List ℕ} {K : Kept} {seen : L
       new = λ _ _ _. (rw e, rw e);
     }
 
--- The ways out of `end_name`.
-module _ {known : List (List ℕ)} {n : ℕ} {x : List ℕ} {state after : ℕ} {K : Kept} {seen : List Bool} where
-  pub outside_names : state ≢ 1 → NameEnded known n x state after K seen K seen
-  outside_names d = record {
-    outside = λ _. (refl, refl);
-    inside = λ _. (refl, refl);
-    ended = λ e _. absurd (d e);
-  }
-
-  pub inside_name : after ≡ 1 → NameEnded known n x state after K seen K seen
-  inside_name e = record {
-    outside = λ _. (refl, refl);
-    inside = λ _. (refl, refl);
-    ended = λ _ d. absurd (d e);
-  }
-
-  pub name_taken :
-      {K' : Kept} {seen' : List Bool} → state ≡ 1 → after ≢ 1 → NameTaken known n x K seen K' seen'
-      → NameEnded known n x state after K seen K' seen'
-  name_taken e d T = record {
-    outside = λ q. absurd (q e);
-    inside = λ q. absurd (d q);
-    ended = λ _ _. T;
-  }
-
 -- What is kept behind a name that ends within a bracket.
-module _ {known : List (List ℕ)} {n : ℕ} {s : List Open} {K : Kept} {parts numbers rows chain : List ℕ}
+module _ {known : List (List ℕ)} {n : ℕ} {s : List Open} {K : Kept}
     (x : List ℕ) (seen : List Bool) (z : 0 < n) (few : n ≤ most_leaves) (many : length known ≡ n)
     (within : inside s ≡ true) (long : length seen ≡ most_leaves)
-    (A : KeptAt known n s none K parts numbers rows chain (flags seen)) where
+    (A : KeptAt known n s none K (flags seen)) where
   -- a wrong name
   wrong_kept :
-      (K' : Kept) → K'.binary ≡ K.binary → K'.named ≡ false → Wrong known n (names_so_far s none ++ (x ∷ []))
-      → KeptAt known n s (some (named_drawing x)) K' parts numbers rows chain (flags seen)
-  wrong_kept K' e f w = record {
+      Wrong known n (names_so_far s none ++ (x ∷ []))
+      → KeptAt known n s (some (named_drawing x)) (misnamed_kept K) (flags seen)
+  wrong_kept w = record {
     parts_long = A.parts_long;
     numbers_long = A.numbers_long;
     rows_long = A.rows_long;
     chain_long = A.chain_long;
-    fits_is = e ∙ A.fits_is ∙ sym (fits_name s x within);
-    ways_are = λ t. A.ways_are (sym e ∙ t);
-    names = record { right = λ t. absurd (never t f); wrong = λ _. rw (names_name s x) w };
-    built = λ _ t. absurd (never t f);
+    fits_is = A.fits_is ∙ sym (fits_name s x within);
+    ways_are = A.ways_are;
+    names = record { right = λ t. absurd (never t refl); wrong = λ _. rw (names_name s x) w };
+    built = λ _ t. absurd (never t refl);
   }
+
+  misnamed_already : K.named ≡ false → misnamed_kept K ≡ K
+  misnamed_already f = rw (← f)
 
   -- a leaf that was not named before
   module _ (t : K.named ≡ true) (low : leaf_named known x < n) (new : flags seen (leaf_named known x) ≡ false) where
@@ -135,23 +113,21 @@ module _ {known : List (List ℕ)} {n : ℕ} {s : List Open} {K : Kept} {parts n
     ]
 
     new_built :
-        Built known n s none K numbers rows chain (flags seen)
-        → Built known n s (some (named_drawing x)) (named_kept K (leaf_named known x)) numbers rows chain
+        Built known n s none K (flags seen)
+        → Built known n s (some (named_drawing x)) (named_kept K (leaf_named known x))
         (flags (set seen (leaf_named known x) true))
-    unfolding named_kept
     new_built B = record {
       of_opens = B.of_opens;
       opens_held = B.opens_held;
       keeps =
-          keeps_name known n z s B.of_opens K.last K.rows (rows_made K rows) (chain_kept K chain) (flags seen)
+          keeps_name known n z s B.of_opens K.last K.joined.made (rows_made K.joined) (chain_kept K.joined) (flags seen)
           x
           (flags (set seen (leaf_named known x) true)) low new sees B.keeps;
     }
 
     new_kept :
-        KeptAt known n s (some (named_drawing x)) (named_kept K (leaf_named known x)) parts numbers rows chain
+        KeptAt known n s (some (named_drawing x)) (named_kept K (leaf_named known x))
         (flags (set seen (leaf_named known x) true))
-    unfolding named_kept
     new_kept = record {
       parts_long = A.parts_long;
       numbers_long = A.numbers_long;
@@ -171,26 +147,25 @@ module _ {known : List (List ℕ)} {n : ℕ} {s : List Open} {K : Kept} {parts n
 
   pub name_kept :
       {K' : Kept} {seen' : List Bool} → NameTaken known n x K seen K' seen'
-      → KeptAt known n s (some (named_drawing x)) K' parts numbers rows chain (flags seen')
+      → KeptAt known n s (some (named_drawing x)) K' (flags seen')
       × (length seen' ≡ most_leaves)
-  unfolding misnamed_kept
   name_kept T = elim (bool? K.named) [
     | inr f ↦
         let r = T.misnamed f in
         rw (r.0, r.1)
-        (wrong_kept K refl f (still_wrong known n (names_so_far s none) x (A.names.wrong f)), long)
+        (rw (misnamed_already f) at (wrong_kept (still_wrong known n (names_so_far s none) x (A.names.wrong f))), long)
     | inl t ↦ elim (dec_lt (leaf_named known x) n) [
       | no g ↦
           let r = T.unknown t (omega arith) in
           let e : (leaf_named known x) ≡ n = omega (arith, leaf_named_le known x) in
           rw (r.0, r.1)
-          (wrong_kept (misnamed_kept K) refl refl (unknown_wrong known n (names_so_far s none) x e), long)
+          (wrong_kept (unknown_wrong known n (names_so_far s none) x e), long)
       | yes l ↦ elim (bool? (flags seen (leaf_named known x))) [
         | inl q ↦
             let r = T.again t l q in
             let right = A.names.right t in
             rw (r.0, r.1) (
-              wrong_kept (misnamed_kept K) refl refl
+              wrong_kept
                   (again_wrong known n (names_so_far s none) x (flags seen) K.many right l q),
               long,
             )

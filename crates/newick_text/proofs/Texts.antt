@@ -1,26 +1,26 @@
 -- A text read byte by byte: what is kept of the first k bytes gives what is kept of one more; and at the end, or where
 -- a byte breaks the grammar, it says what import answers.
+use Rattle.std.specs.Prelude.{Ok, Err}
 use mathlib.Core.Path.{◌≡◌, refl, ap, sym, ◌∙◌}
 use mathlib.Core.Logic.{inl, inr, ◌≢◌}
-use mathlib.Core.Bool.{Bool, true, false, ◌&&◌, not}
+use mathlib.Core.Bool.{Bool, true, false, ◌&&◌}
 use mathlib.Core.List.{List, [], ◌∷◌, ◌++◌}
 use mathlib.Core.Option.{Option, none, some}
 use Prim.Native.Nat.{ℕ, zero, suc, ◌+◌, ◌-◌, ◌≤◌, ◌<◌}
 use native.Mathlib.Numerals.{add-one}
 use native.Mathlib.Omega.{arith}
 use native.Mathlib.Decide.{ℕ_discrete}
-use borrow.Author.Tests.{eqb-true, ne_eqb, eq-eqb, not-false}
+use borrow.Author.Tests.{eqb-true, ne_eqb, eq-eqb}
 use lib.Dec.{eqb, ltb}
 use lib.ListN.{length, get_or, drop, replicate, length-replicate, length-drop, drop_of_length-le}
 use lib.Seq.{drop-cons, take-suc, get_or-drop}
 use Rattle.base.proofs.Bools.{bool?, never}
 use Rattle.base.proofs.Counts.{count_le}
-use Rattle.limits.specs.Limits.{most_leaves, IsLeafCount}
+use Rattle.limits.specs.Limits.{most_leaves, most_numbers, IsLeafCount}
 use Rattle.refusals.specs.declared.Refusal.TheVariants.{NotBinary, Unmatched}
-use Rattle.refusals.specs.declared.Outcome.TheVariants.{Done, Refused}
 use Rattle.refusals.specs.Refusals.{refuse, judged, outcome_of}
 use Rattle.sheet_rules.specs.Sheets.{name_byte, names_of}
-use Rattle.newick_rules.specs.Drawings.{Drawing, more}
+use Rattle.newick_rules.specs.Drawings.{Drawing}
 use Rattle.newick_rules.specs.Drawings.{name as named_drawing}
 use Rattle.newick_rules.specs.Reader.{opening, closing, blank, length_byte, Open, inside, follows, step}
 use Rattle.newick_rules.specs.Reader.{Place, due, in_name, behind, at_length, in_length, ended}
@@ -39,59 +39,53 @@ use Rattle.newick_reading.proofs.Fitting.{fits_start}
 use Rattle.newick_reading.proofs.Naming.{right_start}
 use Rattle.newick_reading.proofs.Joining.{keeps_start}
 use Rattle.rerooted_rows.specs.inner.Arrays.{backwards}
+use Rattle.newick_states.specs.declared.State.{State}
+use Rattle.newick_states.specs.declared.State.TheVariants.{Due, InName, Behind, BehindLength, AtLength, InLength, Ended}
+use Rattle.newick_states.specs.inner.States.{number_of}
 use Rattle.newick_parts.specs.declared.Kept.{Kept}
-use Rattle.newick_parts.specs.inner.Keeping.{KeptAt}
+use Rattle.newick_parts.specs.inner.Keeping.{first_kept, KeptAt}
 use Rattle.newick_parts.specs.inner.Parts.{Comes, Came}
+use Rattle.name_index.specs.inner.Indexes.{FirstNames}
 use Rattle.newick_text.specs.inner.Names.{word_at, flags, Indexed, NameMayEnd, NameEnded}
 use Rattle.newick_text.specs.inner.Texts.{next_from, next_hash, kept_refusal, NameSoFar, ReadTo, Ready}
 use Rattle.newick_text.proofs.TakenNames.{name_kept}
 
--- The ways out of the small functions.
-pub from_inside : (state from k : ℕ) → state ≡ 1 → from ≡ next_from state from k
-unfolding next_from
-from_inside state from k e = rw e
+-- The numbers of the states that code keeps.
+pub unbroken : (s : State) → number_of s ≢ 7
+unbroken Due e = omega arith
+unbroken InName e = omega arith
+unbroken Behind e = omega arith
+unbroken BehindLength e = omega arith
+unbroken AtLength e = omega arith
+unbroken InLength e = omega arith
+unbroken Ended e = omega arith
 
-pub from_here : (state from k : ℕ) → state ≢ 1 → k ≡ next_from state from k
-unfolding next_from
-from_here state from k d = rw (ne_eqb state 1 d)
-
-pub hash_outside : (state after hash b : ℕ) → after ≢ 1 → 0 ≡ next_hash state after hash b
-unfolding next_hash
-hash_outside state after hash b d = rw (ne_eqb after 1 d)
-
-pub hash_on : (state after hash b : ℕ) → after ≡ 1 → state ≡ 1 → hash_step hash b ≡ next_hash state after hash b
-unfolding next_hash
-hash_on state after hash b e f = rw (e, f)
-
-pub hash_first : (state after hash b : ℕ) → after ≡ 1 → state ≢ 1 → hash_step 0 b ≡ next_hash state after hash b
-unfolding next_hash
-hash_first state after hash b e d = rw (e, ne_eqb state 1 d)
+pub not_ended : (s : State) → s ≢ Ended → number_of s ≢ 6
+not_ended Due d e = omega arith
+not_ended InName d e = omega arith
+not_ended Behind d e = omega arith
+not_ended BehindLength d e = omega arith
+not_ended AtLength d e = omega arith
+not_ended InLength d e = omega arith
+not_ended Ended d e = d refl
 
 module _ (n : ℕ) (K : Kept) where
-  pub not_binary : K.binary ≡ false → Refused NotBinary ≡ outcome_of (kept_refusal n K)
+  pub not_binary : K.binary ≡ false → Err NotBinary ≡ outcome_of (kept_refusal n K)
   unfolding kept_refusal refuse judged outcome_of
   not_binary f = rw f
 
   module _ (t : K.binary ≡ true) where
-    pub not_named : K.named ≡ false → Refused Unmatched ≡ outcome_of (kept_refusal n K)
+    pub not_named : K.named ≡ false → Err Unmatched ≡ outcome_of (kept_refusal n K)
     unfolding kept_refusal refuse judged outcome_of
     not_named f = rw (t, f)
 
-    pub not_all : K.named ≡ true → K.many ≢ n → Refused Unmatched ≡ outcome_of (kept_refusal n K)
+    pub not_all : K.named ≡ true → K.many ≢ n → Err Unmatched ≡ outcome_of (kept_refusal n K)
     unfolding kept_refusal refuse judged outcome_of
     not_all u d = rw (t, u, ne_eqb K.many n d)
 
-    pub all_right : K.named ≡ true → K.many ≡ n → Done ≡ outcome_of (kept_refusal n K)
+    pub all_right : K.named ≡ true → K.many ≡ n → Ok tt ≡ outcome_of (kept_refusal n K)
     unfolding kept_refusal refuse judged outcome_of
     all_right u e = rw (t, u, eq-eqb K.many n e)
-
-  -- the last two, as the code's tests say what holds
-  pub few_named :
-      not K.binary ≡ false → not K.named ≡ false → K.many ≢ n → Refused Unmatched ≡ outcome_of (kept_refusal n K)
-  few_named t u d = not_all (not-false _ t) (not-false _ u) d
-
-  pub all_named : not K.binary ≡ false → not K.named ≡ false → K.many ≡ n → Done ≡ outcome_of (kept_refusal n K)
-  all_named t u e = all_right (not-false _ t) (not-false _ u) e
 
 -- The name that the reader is in.
 
@@ -167,38 +161,38 @@ no_flags zero k = refl
 no_flags (suc m) zero = refl
 no_flags (suc m) (suc k) = no_flags m k
 
-abbrev pub first_kept : Kept
-first_kept = record { last = 0; binary = true; named = true; many = 0; rows = 0; chained = 0 }
+module _ {x : FirstNames} (D : Ready x) where
+  abbrev none_seen : List Bool
+  none_seen = replicate most_leaves false
 
-module _ {S : List ℕ} {n : ℕ} {heads before starts parts numbers : List ℕ} {seen : List Bool} {rows chain : List ℕ}
-    (D : Ready S n heads before starts parts numbers seen rows chain) where
-  none_flagged : (k : ℕ) → flags seen k ≡ false
-  none_flagged k = rw D.none_seen (no_flags most_leaves k)
+  none_flagged : (k : ℕ) → flags none_seen k ≡ false
+  none_flagged = no_flags most_leaves
 
-  first_at : KeptAt (names_of S) n [] none first_kept parts numbers rows chain (flags seen)
+  first_at : KeptAt (names_of x.sheet) x.many [] none first_kept (flags none_seen)
   unfolding names_so_far opens_names last_names
   first_at =
-      let known = names_of S in
+      let n = x.many in
+      let known = names_of x.sheet in
       let z : 0 < n = omega (arith, D.count.0) in
       record {
-        parts_long = D.parts_long;
-        numbers_long = D.numbers_long;
-        rows_long = D.rows_long;
-        chain_long = D.chain_long;
+        parts_long = length-replicate {A = ℕ} most_leaves 0;
+        numbers_long = length-replicate {A = ℕ} most_leaves 0;
+        rows_long = length-replicate {A = ℕ} most_numbers 0;
+        chain_long = length-replicate {A = ℕ} most_leaves 0;
         fits_is = sym fits_start;
         ways_are = λ _. tt;
         names = record {
-          right = λ _. right_start known n (flags seen) none_flagged;
+          right = λ _. right_start known n (flags none_seen) none_flagged;
           wrong = λ f. absurd (never refl f);
         };
         built = λ _ _. record {
           of_opens = [];
           opens_held = tt;
-          keeps = unfold backwards in keeps_start known n z 0 (flags seen) none_flagged;
+          keeps = unfold backwards in keeps_start known n z 0 (flags none_seen) none_flagged;
         };
       }
 
-  pub read_start : (t : List ℕ) → ReadTo S t n 0 0 0 0 0 first_kept parts numbers seen rows chain
+  pub read_start : (t : List ℕ) → ReadTo x.sheet t x.many 0 0 0 0 0 first_kept none_seen
   unfolding state_of opens_of last_of read
   read_start t = record {
     place = due [];
@@ -210,7 +204,7 @@ module _ {S : List ℕ} {n : ℕ} {heads before starts parts numbers : List ℕ}
     within = omega arith;
     name_so_far = tt;
     hash_low = omega arith;
-    seen_long = rw D.none_seen (length-replicate most_leaves false);
+    seen_long = length-replicate most_leaves false;
     kept = first_at;
   }
 
@@ -241,23 +235,22 @@ moved_shallow limit b s d Q M h = elim (bool? (eqb b opening)) [
   ]
 ]
 
-module _ {S t : List ℕ} {n state depth from hash k : ℕ} {K : Kept} {parts numbers : List ℕ} {seen : List Bool}
-    {rows chain : List ℕ} (count : IsLeafCount n) (strains : Strains n (names_of S))
-    (R : ReadTo S t n state depth from hash k K parts numbers seen rows chain) where
+module _ {S t : List ℕ} {n state depth from hash k : ℕ} {K : Kept} {seen : List Bool} (count : IsLeafCount n)
+    (strains : Strains n (names_of S))
+    (R : ReadTo S t n state depth from hash k K seen) where
   abbrev known : List (List ℕ)
   known = names_of S
 
   pub name_may_end :
-      {heads before starts : List ℕ} → Indexed S n heads before starts
-      → NameMayEnd S n heads before starts t state from k hash K seen
-  name_may_end I = record {
-    fits = λ e.
-        let h = in_a_name R.place t from k hash (R.state_is ∙ e) R.name_so_far in
+      (x : FirstNames) → Indexed x → n ≡ x.many → NameMayEnd x t state from k hash K seen
+  name_may_end x I e = record {
+    from_in = λ q. (in_a_name R.place t from k hash (R.state_is ∙ q) R.name_so_far).0;
+    within = λ _. R.within;
+    fits = λ q.
         record {
           indexed = I;
-          from_in = h.0;
-          within = R.within;
-          hash_is = h.1;
+          few = rw (← e) count.1;
+          hash_is = (in_a_name R.place t from k hash (R.state_is ∙ q) R.name_so_far).1;
           many_low = λ u.
               omega (arith, (R.kept.names.right u).many_is, count_le n (flags seen), count.1);
           seen_long = R.seen_long;
@@ -300,8 +293,7 @@ module _ {S t : List ℕ} {n state depth from hash k : ℕ} {K : Kept} {parts nu
   settled :
       (after : ℕ) (K' : Kept) (seen' : List Bool)
       → NameEnded (names_of S) n (word_at t from k) state after K seen K' seen'
-      → KeptAt (names_of S) n (opens_of R.place) (last_after R.place after) K' parts numbers rows chain
-      (flags seen')
+      → KeptAt (names_of S) n (opens_of R.place) (last_after R.place after) K' (flags seen')
       × (length seen' ≡ most_leaves)
   unfolding state_of opens_of last_of last_after
   settled after K' seen' E =
@@ -309,14 +301,14 @@ module _ {S t : List ℕ} {n state depth from hash k : ℕ} {K : Kept} {parts nu
     where
       same :
           (s : List Open) (d : Option Drawing) → (K' ≡ K) × (seen' ≡ seen)
-          → KeptAt known n s d K parts numbers rows chain (flags seen)
-          → KeptAt known n s d K' parts numbers rows chain (flags seen') × (length seen' ≡ most_leaves)
+          → KeptAt known n s d K (flags seen)
+          → KeptAt known n s d K' (flags seen') × (length seen' ≡ most_leaves)
       same s d e A = rw (e.0, e.1) (A, R.seen_long)
 
       go :
           (P : Place) → state_of P ≡ state → NamesInside P → NameSoFar P t from k hash
-          → KeptAt known n (opens_of P) (last_of P) K parts numbers rows chain (flags seen)
-          → KeptAt known n (opens_of P) (last_after P after) K' parts numbers rows chain (flags seen')
+          → KeptAt known n (opens_of P) (last_of P) K (flags seen)
+          → KeptAt known n (opens_of P) (last_after P after) K' (flags seen')
           × (length seen' ≡ most_leaves)
       go (in_name s x) e i h A = elim (ℕ_discrete after 1) [
         | yes q ↦ rw q (same s none (E.inside q) A)
@@ -344,7 +336,7 @@ module _ {S t : List ℕ} {n state depth from hash k : ℕ} {K : Kept} {parts nu
         let l = next_place in
         rw l.2 at (step_moved deepest R.place l.0 (get_or t k 0) l.1)
 
-    pub byte_comes : Comes (get_or t k 0) n depth K₁ parts numbers rows chain
+    pub byte_comes : Comes (get_or t k 0) n depth K₁
     byte_comes = record {
       count = count;
       shallow = omega (arith, R.shallow);
@@ -359,11 +351,11 @@ module _ {S t : List ℕ} {n state depth from hash k : ℕ} {K : Kept} {parts nu
     }
 
     pub read_more :
-        {K₂ : Kept} {parts₂ numbers₂ rows₂ chain₂ : List ℕ}
-        → Came (get_or t k 0) n depth K₁ parts numbers rows chain K₂ parts₂ numbers₂ rows₂ chain₂
+        {K₂ : Kept}
+        → Came (get_or t k 0) n depth K₁ K₂
         → next_hash state after hash (get_or t k 0) < hashes
         → ReadTo S t n after (next_depth depth (get_or t k 0)) (next_from state from k)
-        (next_hash state after hash (get_or t k 0)) (k + 1) K₂ parts₂ numbers₂ seen₁ rows₂ chain₂
+        (next_hash state after hash (get_or t k 0)) (k + 1) K₂ seen₁
     unfolding read_on
     read_more C small =
         let l = next_place in
@@ -420,15 +412,15 @@ module _ {S t : List ℕ} {n state depth from hash k : ℕ} {K : Kept} {parts nu
   pub ends_whole :
       length t ≤ k → state ≡ 6
       → (d : Drawing) × (read deepest t ≡ draws d)
-      × KeptAt (names_of S) n [] (some d) K parts numbers rows chain (flags seen)
+      × KeptAt (names_of S) n [] (some d) K (flags seen)
   unfolding state_of at_end opens_of last_of
   ends_whole l q = go R.place R.state_is (at_its_end l) R.kept
     where
       go :
           (P : Place) → state_of P ≡ state → at_end P k ≡ read deepest t
-          → KeptAt (names_of S) n (opens_of P) (last_of P) K parts numbers rows chain (flags seen)
+          → KeptAt (names_of S) n (opens_of P) (last_of P) K (flags seen)
           → (d : Drawing) × (read deepest t ≡ draws d)
-          × KeptAt (names_of S) n [] (some d) K parts numbers rows chain (flags seen)
+          × KeptAt (names_of S) n [] (some d) K (flags seen)
       go (due s) e h A = absurd (omega arith)
       go (in_name s x) e h A = absurd (omega arith)
       go (behind s true d) e h A = absurd (omega arith)

@@ -5,112 +5,80 @@
 ghost use Rattle.std.specs.Prelude.{◌≡◌, ◌<◌};
 ghost use Rattle.refusals.specs.Refusals.{outcome_of};
 ghost use Rattle.name_index.specs.inner.Hashes.{hashes};
+ghost use Rattle.newick_states.specs.inner.States.{number_of};
 ghost use Rattle.newick_text.specs.inner.Texts.{next_from, next_hash, kept_refusal, Ready, ReadSays};
 
-use limits::{MOST_LEAVES, MOST_NUMBERS};
-use name_index::{BUCKETS, hash_byte};
-use newick_parts::{Kept, bracket};
+use limits::MOST_LEAVES;
+use name_index::{NameIndex, hash_byte};
+use newick_parts::Kept;
 use newick_runs::run_on;
-use newick_states::{BROKEN, DUE, ENDED, IN_NAME, next_depth, next_state};
-use refusals::{Outcome, Refusal};
+use newick_states::{State, next_depth, next_state};
+use refusals::Refusal;
+use rerooted_rows::Rerooting;
 
 mod names;
 
-// What reading a text answers, and, where nothing is refused, how many rows it wrote and numbers the chain has.
-#[derive(Clone, Copy)]
-pub struct Read {
-    pub outcome: Outcome,
-    pub rows: usize,
-    pub chained: usize,
-}
-
 // Where the name begins that the next byte may be in.
-fn name_from(state: u8, from: usize, k: usize) -> usize
-    ensures { result ≡ next_from state from k }
+#[tactic(auto, unfolding(crate::specs::inner::Texts::next_from))]
+fn name_from(state: State, from: usize, k: usize) -> usize
+    ensures { result ≡ next_from (number_of state) from k }
 {
-    if state == IN_NAME {
-        return from;
+    match state {
+        State::InName => from,
+        _ => k,
     }
-    k
 }
 
 // Its hash behind byte b.
-fn name_hash(state: u8, after: u8, hash: u64, b: u8) -> u64
+#[tactic(auto, unfolding(crate::specs::inner::Texts::next_hash))]
+fn name_hash(state: State, after: State, hash: u64, b: u8) -> u64
     requires { hash < hashes }
-    ensures { (result ≡ next_hash state after hash b) × (result < hashes) }
+    ensures { (result ≡ next_hash (number_of state) (number_of after) hash b) × (result < hashes) }
 {
-    if after != IN_NAME {
-        return 0;
+    match (state, after) {
+        (State::InName, State::InName) => hash_byte(hash, b),
+        (_, State::InName) => hash_byte(0, b),
+        _ => 0,
     }
-    if state == IN_NAME {
-        return hash_byte(hash, b);
-    }
-    hash_byte(0, b)
 }
 
 // What is judged of a text that keeps the grammar, by what is kept of it: 18, 19.
-#[tactic(auto, using(crate::proofs::Texts::few_named, crate::proofs::Texts::all_named))]
-fn judge_kept(n: usize, kept: Kept) -> Outcome
-    ensures { result ≡ outcome_of (kept_refusal n kept) }
+#[tactic(auto, using(crate::proofs::Texts::not_named, crate::proofs::Texts::not_all, crate::proofs::Texts::all_right))]
+fn judge_kept(n: usize, kept: &Kept) -> Result<(), Refusal>
+    ensures { result ≡ outcome_of (kept_refusal n kept.now) }
 {
     if !kept.binary {
-        return Outcome::Refused(Refusal::NotBinary);
+        return Err(Refusal::NotBinary);
     }
-    if !kept.named {
-        return Outcome::Refused(Refusal::Unmatched);
+    if !kept.named || kept.many != n {
+        return Err(Refusal::Unmatched);
     }
-    if kept.many != n {
-        return Outcome::Refused(Refusal::Unmatched);
-    }
-    Outcome::Done
+    Ok(())
 }
 
-// Reads a text: 17, 18, 19, each over the whole text; or the rows of the tree that it draws, but those of the chain,
-// which comes with them. For the crates above.
-pub fn read_text(
-    sheet: &[u8],
-    n: usize,
-    heads: &[u16; BUCKETS],
-    before: &[u16; MOST_LEAVES],
-    starts: &[u16; MOST_LEAVES],
-    text: &[u8],
-    parts: &mut [u8; MOST_LEAVES],
-    numbers: &mut [u16; MOST_LEAVES],
-    seen: &mut [bool; MOST_LEAVES],
-    rows: &mut [u16; MOST_NUMBERS],
-    chain: &mut [u16; MOST_LEAVES],
-) -> Read
-    requires { Ready sheet.now n heads.now before.now starts.now parts.old numbers.old seen.old
-        rows.old chain.old }
-    ensures { ReadSays sheet.now text.now n rows.new chain.new result }
+// Reads a text: 17, 18, 19, each over the whole text; or the rows of the tree that it draws. For the crates above.
+pub fn read_text(names: &NameIndex, text: &[u8]) -> Result<Rerooting, Refusal>
+    requires { Ready names.now }
+    ensures { ReadSays names.now.sheet text.now names.now.many result }
 {
-    let mut kept = Kept {
-        last: 0,
-        binary: true,
-        named: true,
-        many: 0,
-        rows: 0,
-        chained: 0,
-    };
-    let mut state: u8 = DUE;
-    let mut depth: usize = 0;
-    let mut from: usize = 0;
-    let mut hash: u64 = 0;
-    let mut k: usize = 0;
+    let n = names.len();
+    let mut kept = Kept::new();
+    let mut seen = [false; MOST_LEAVES];
+    let mut state = State::Due;
+    let mut depth = 0;
+    let mut from = 0;
+    let mut hash = 0;
+    let mut k = 0;
+    // A while: each step goes to behind a run of bytes.
     while k < text.len() {
         let b = text[k];
-        let after = next_state(state, depth, b);
-        if after == BROKEN {
-            return Read {
-                outcome: Outcome::Refused(Refusal::Grammar(k)),
-                rows: 0,
-                chained: 0,
-            };
-        }
-        let named = names::end_name(
-            sheet, n, heads, before, starts, text, from, k, hash, state, after, kept, seen,
+        let Some(after) = next_state(state, depth, b) else {
+            return Err(Refusal::Grammar(k));
+        };
+        names::end_name(
+            names, text, from, k, hash, state, after, &mut kept, &mut seen,
         );
-        kept = bracket(b, n, depth, named, parts, numbers, rows, chain);
+        kept.bracket(b, n, depth);
         from = name_from(state, from, k);
         depth = next_depth(depth, b);
         let run = run_on(text, after, k + 1, name_hash(state, after, hash, b));
@@ -118,16 +86,9 @@ pub fn read_text(
         k = run.to;
         state = after;
     }
-    if state != ENDED {
-        return Read {
-            outcome: Outcome::Refused(Refusal::Grammar(k)),
-            rows: 0,
-            chained: 0,
-        };
+    match state {
+        State::Ended => judge_kept(n, &kept)?,
+        _ => return Err(Refusal::Grammar(k)),
     }
-    Read {
-        outcome: judge_kept(n, kept),
-        rows: kept.rows,
-        chained: kept.chained,
-    }
+    Ok(kept.joined)
 }

@@ -1,95 +1,59 @@
 // The names of a text: each is looked up where it ends (19).
 ghost use Rattle.std.specs.Prelude.{◌≡◌};
 ghost use Rattle.sheet_rules.specs.Sheets.{names_of};
-ghost use Rattle.newick_text.specs.inner.Names.{word_at, misnamed_kept, NameFits, NameTaken, NameMayEnd};
+ghost use Rattle.newick_states.specs.inner.States.{number_of};
+ghost use Rattle.newick_text.specs.inner.Names.{word_at, NameFits, NameTaken, NameMayEnd};
 ghost use Rattle.newick_text.specs.inner.Names.{NameEnded};
 
 use limits::MOST_LEAVES;
-use name_index::{BUCKETS, leaf_named};
+use name_index::NameIndex;
 use newick_parts::Kept;
-use newick_states::IN_NAME;
+use newick_states::State;
 
-// A name is not known, or stands twice.
-fn misnamed(kept: Kept) -> Kept
-    ensures { result ≡ misnamed_kept kept }
-{
-    Kept {
-        last: kept.last,
-        binary: kept.binary,
-        named: false,
-        many: kept.many,
-        rows: kept.rows,
-        chained: kept.chained,
-    }
-}
-
-// The name that begins at a place of the text and ends before byte k, with this hash.
+// A name, which has this hash.
 fn take_name(
-    sheet: &[u8],
-    n: usize,
-    heads: &[u16; BUCKETS],
-    before: &[u16; MOST_LEAVES],
-    starts: &[u16; MOST_LEAVES],
-    text: &[u8],
-    from: usize,
-    k: usize,
+    names: &NameIndex,
+    word: &[u8],
     hash: u64,
-    kept: Kept,
+    kept: &mut Kept,
     seen: &mut [bool; MOST_LEAVES],
-) -> Kept
-    requires { NameFits sheet.now n heads.now before.now starts.now text.now from k hash kept seen.old }
-    ensures { NameTaken (names_of sheet.now) n (word_at text.now from k) kept
-        seen.old result seen.new }
+)
+    requires { NameFits names.now word.now hash kept.old seen.old }
+    ensures { NameTaken (names_of names.now.sheet) names.now.many word.now kept.old seen.old
+        kept.new seen.new }
 {
-    if kept.named {
-        let i = leaf_named(sheet, n, heads, before, starts, text, from, k - from, hash);
-        if i < n {
-            if seen[i] {
-                return misnamed(kept);
-            }
-            seen[i] = true;
-            return Kept {
-                last: i as u16,
-                binary: kept.binary,
-                named: kept.named,
-                many: kept.many + 1,
-                rows: kept.rows,
-                chained: kept.chained,
-            };
-        }
-        return misnamed(kept);
+    if !kept.named {
+        return;
     }
-    kept
+    match names.find(word, hash) {
+        Some(i) if !seen[i] => {
+            seen[i] = true;
+            kept.last = i as u16;
+            kept.many += 1;
+        }
+        _ => kept.named = false,
+    }
 }
 
-// The same where a name ends: the state is in one, and the next is not.
+// The name that begins at a place of the text, where it ends before byte k: the state is in one, and the next is not.
 pub(crate) fn end_name(
-    sheet: &[u8],
-    n: usize,
-    heads: &[u16; BUCKETS],
-    before: &[u16; MOST_LEAVES],
-    starts: &[u16; MOST_LEAVES],
+    names: &NameIndex,
     text: &[u8],
     from: usize,
     k: usize,
     hash: u64,
-    state: u8,
-    after: u8,
-    kept: Kept,
+    state: State,
+    after: State,
+    kept: &mut Kept,
     seen: &mut [bool; MOST_LEAVES],
-) -> Kept
-    requires { NameMayEnd sheet.now n heads.now before.now starts.now text.now state from k hash kept
-        seen.old }
-    ensures { NameEnded (names_of sheet.now) n (word_at text.now from k) state after kept
-        seen.old result seen.new }
+)
+    requires { NameMayEnd names.now text.now (number_of state) from k hash kept.old seen.old }
+    ensures { NameEnded (names_of names.now.sheet) names.now.many (word_at text.now from k) (number_of state)
+        (number_of after) kept.old seen.old kept.new seen.new }
 {
-    if state != IN_NAME {
-        return kept;
+    match (state, after) {
+        (State::InName, State::InName) => {}
+        (State::InName, _) => take_name(names, &text[from..k], hash, kept, seen),
+        _ => {}
     }
-    if after == IN_NAME {
-        return kept;
-    }
-    take_name(
-        sheet, n, heads, before, starts, text, from, k, hash, kept, seen,
-    )
 }

@@ -12,7 +12,6 @@ ghost use Rattle.newick_writing.specs.inner.Writing.{front, end, pair_text, part
 
 use limits::{MOST_LEAVES, MOST_NUMBERS, MOST_ROWS};
 use listings::Row;
-use numbers::{index_of_u8, index_of_u16};
 use standard_listings::{children, order_rows};
 
 // Puts one byte.
@@ -22,18 +21,6 @@ fn put(b: u8, at: usize, text: &mut [u8]) -> usize
 {
     text[at] = b;
     at + 1
-}
-
-// Puts so many bytes of the sheet, from a place on.
-fn put_bytes(sheet: &[u8], from: usize, many: usize, at: usize, text: &mut [u8])
-    requires { (from + many ≤ length sheet.now) × (at + many ≤ length text.old) }
-    ensures { text.new ≡ sets text.old at (take many (drop from sheet.now)) }
-{
-    let mut k: usize = 0;
-    while k < many {
-        text[at + k] = sheet[from + k];
-        k += 1;
-    }
 }
 
 // Puts the name of a leaf.
@@ -47,9 +34,9 @@ fn put_name(
     requires { NameFits sheet.now starts.now leaf at text.old }
     ensures { Put (name sheet.now leaf) at text.old text.new result }
 {
-    let start = index_of_u16(starts[leaf]);
-    let many = index_of_u8(sheet[start]);
-    put_bytes(sheet, start + 1, many, at, text);
+    let start = usize::from(starts[leaf]);
+    let many = usize::from(sheet[start]);
+    text[at..at + many].copy_from_slice(&sheet[start + 1..start + 1 + many]);
     at + many
 }
 

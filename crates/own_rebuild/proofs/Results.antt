@@ -1,5 +1,6 @@
 -- The end of our own rebuild: when all leaves but 0 have been merged, one test says whether the tree is there, to which
 -- the result is tied by `Rooted`.
+use Rattle.std.specs.Prelude.{Err}
 use mathlib.Core.Path.{◌≡◌, refl, sym, ap, ◌∙◌}
 use mathlib.Core.Bool.{true, false, ◌||◌}
 use mathlib.Core.List.{List}
@@ -10,7 +11,6 @@ use native.Mathlib.Decide.{ℕ_discrete}
 use lib.ListN.{length, get_or, take}
 use lib.Seq.{length-take-le}
 use Rattle.refusals.specs.declared.Refusal.TheVariants.{NoTree}
-use Rattle.refusals.specs.declared.Outcome.TheVariants.{Done, Refused}
 use Rattle.base.proofs.Bools.{or_left, or_right, is_false, never}
 use Rattle.limits.specs.declared.Kind.TheVariants.{Counts}
 use Rattle.limits.specs.Limits.{IsLeafCount}
@@ -163,12 +163,8 @@ module _ {n s : ℕ} {table label m sizes names rows : List ℕ} {r : ℕ} (coun
         let keeps = of_lawful n (omega (arith, big)) rows_made lawful_rows in
         rw (judged_passes _ sizes ∙ judged_alone _ ∙ keeps, top_tree) (sym is_rebuilt)
 
-    pub rebuilt_done : Done ≡ outcome (rebuilt n s table)
-    unfolding outcome
-    rebuilt_done = rw is_rebuilt
-
   pub answered_none :
       (OneSubtreeFits n table label m → ⊥) → (out : List ℕ)
-      → (Refused NoTree ≡ outcome (rebuilt n s table)) × (out ≡ written (rebuilt n s table) out)
+      → (Err NoTree ≡ outcome (rebuilt n s table)) × (out ≡ written (rebuilt n s table) out)
   unfolding outcome written
   answered_none deny out = (rw (no_tree deny), rw (no_tree deny))

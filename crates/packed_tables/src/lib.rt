@@ -4,32 +4,26 @@
 ghost use Rattle.std.specs.Prelude.{◌≡◌};
 ghost use Rattle.packed_tables.specs.Operations.{is_packed, packed_cell, with_packed_row};
 
+use crate::reading::Table;
+
 pub mod reading;
 
 // Whether bytes are a packed table of n leaves.
 pub fn is_packed(n: usize, packed: &[u8]) -> bool
     ensures { result ≡ is_packed n packed.now }
 {
-    if !checks::leaf_count(n) {
-        return false;
-    }
-    packed.len() == n * (n - 1)
+    checks::leaf_count(n) && packed.len() == n * (n - 1)
 }
 
 // Cell (i, j) of a packed table of n leaves; 0 where the bytes are none, or i or j is no leaf.
+// No Option: docs/TRACE.md names this function and `packed_cell`, whose equation has the 0.
 pub fn cell(n: usize, packed: &[u8], i: usize, j: usize) -> u32
     ensures { result ≡ packed_cell n packed.now i j }
 {
-    if !is_packed(n, packed) {
-        return 0;
+    if is_packed(n, packed) && i < n && j < n {
+        return Table { n, bytes: packed }.cell(i, j);
     }
-    if n <= i {
-        return 0;
-    }
-    if n <= j {
-        return 0;
-    }
-    reading::cell_of(n, packed, i, j)
+    0
 }
 
 // Writes row i of a packed table of n leaves at the front of `out`; nothing where the bytes are none, i is no leaf or
@@ -37,14 +31,7 @@ pub fn cell(n: usize, packed: &[u8], i: usize, j: usize) -> u32
 pub fn write_row(n: usize, packed: &[u8], i: usize, out: &mut [u32])
     ensures { out.new ≡ with_packed_row n packed.now i out.old }
 {
-    if !is_packed(n, packed) {
-        return;
+    if is_packed(n, packed) && i < n && n <= out.len() {
+        Table { n, bytes: packed }.write_row(i, out);
     }
-    if n <= i {
-        return;
-    }
-    if out.len() < n {
-        return;
-    }
-    reading::row_of(n, packed, i, out);
 }

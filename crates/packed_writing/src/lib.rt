@@ -13,8 +13,9 @@ fn put_above(n: usize, packed: &mut [u8], i: usize, j: usize, v: u16)
     ensures { CellPut n packed.old packed.new i j v }
 {
     let at = 2 * cells_before(n, i, j);
-    packed[at] = byte_numbers::low_byte(v);
-    packed[at + 1] = byte_numbers::high_byte(v);
+    let [low, high] = v.to_le_bytes();
+    packed[at] = low;
+    packed[at + 1] = high;
 }
 
 // Cell (i, j) of a packed table of n leaves, and its mirror cell, become v.
@@ -24,7 +25,7 @@ pub fn put_cell(n: usize, packed: &mut [u8], i: usize, j: usize, v: u32)
 {
     if i < j {
         put_above(n, packed, i, j, v as u16);
-        return;
+    } else {
+        put_above(n, packed, j, i, v as u16);
     }
-    put_above(n, packed, j, i, v as u16);
 }

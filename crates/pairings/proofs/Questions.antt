@@ -21,6 +21,15 @@ abbrev pub FourAsked : ℕ → List ℕ → Type 0
 FourAsked n q = Four n (get_or q 0 0) (get_or q 1 0) (get_or q 2 0) (get_or q 3 0)
 
 module _ (n : ℕ) (q : List ℕ) where
+  question_good :
+      question_refusal n q ≡ none → (p : ℕ) → p < length q
+      → (leb n (get_or q p 0) ≡ false) × (any_in (eqb (get_or q p 0)) (take p q) ≡ false)
+  question_good h p l =
+      or_neither (leb n (get_or q p 0)) (any_in (eqb (get_or q p 0)) (take p q)) (position_good n q h p l)
+
+  pub question_below : question_refusal n q ≡ none → (p : ℕ) → p < length q → get_or q p 0 < n
+  question_below h p l = leb-false _ _ (question_good h p l).0
+
   pub question_four : length q ≡ 4 → question_refusal n q ≡ none → FourAsked n q
   question_four e h = record {
     leaf_a = below 0 (omega arith);
@@ -35,14 +44,11 @@ module _ (n : ℕ) (q : List ℕ) where
     cd = differ 2 3 (omega arith) (omega arith);
   }
     where
-      good : (p : ℕ) → p < length q → (leb n (get_or q p 0) ≡ false) × (any_in (eqb (get_or q p 0)) (take p q) ≡ false)
-      good p l = or_neither (leb n (get_or q p 0)) (any_in (eqb (get_or q p 0)) (take p q)) (position_good n q h p l)
-
       below : (p : ℕ) → p < length q → get_or q p 0 < n
-      below p l = leb-false _ _ (good p l).0
+      below = question_below h
 
       differ : (i p : ℕ) → i < p → p < length q → get_or q i 0 ≢ get_or q p 0
       differ i p li lp e =
           never (any_before (eqb (get_or q p 0)) 0 q p i (omega arith) li
           (eq-eqb (get_or q p 0) (get_or q i 0) (sym e)))
-          (good p lp).1
+          (question_good h p lp).1

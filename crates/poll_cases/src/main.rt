@@ -5,11 +5,11 @@ ghost use Rattle.std.specs.Prelude.{◌≤◌, IfOk};
 
 use case_lines::{say, say_number};
 use poll_rules::Record;
-use refusals::Outcome;
+use refusals::Refusal;
 use std::io;
 
 // A poll of n leaves with the first so many of these records.
-fn poll_first(n: usize, records: [Record; 5], many: usize, out: &mut [u32]) -> Outcome
+fn poll_first(n: usize, records: [Record; 5], many: usize, out: &mut [u32]) -> Result<(), Refusal>
     requires { many ≤ 5 }
 {
     polls::poll(n, &records[..many], out)
@@ -32,10 +32,8 @@ fn say_above(rt: &impl Print, n: usize, k: usize, cell: u32) -> io::Result<u64>
 // The cells above the diagonal of a table of n leaves, 5 at most, and their total.
 fn say_cells(rt: &impl Print, n: usize, cells: &[u32; 25]) -> io::Result<()> {
     let mut total: u64 = 0;
-    let mut k: usize = 0;
-    while k < 25 {
-        total += say_above(rt, n, k, cells[k])?;
-        k += 1;
+    for (k, cell) in cells.iter().enumerate() {
+        total += say_above(rt, n, k, *cell)?;
     }
     say_number(rt, b", total ", total)
 }

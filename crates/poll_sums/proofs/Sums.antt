@@ -4,10 +4,11 @@ use mathlib.Core.Path.{◌≡◌, ap, sym, ◌∙◌}
 use mathlib.Core.Logic.{inl, inr, ◌≢◌}
 use mathlib.Core.Bool.{Bool, true, false, ◌&&◌, ◌||◌}
 use mathlib.Core.List.{List}
-use Prim.Native.Nat.{ℕ, ◌+◌, ◌*◌, ◌/◌, ◌%◌, ◌≤◌, ◌<◌}
-use native.Mathlib.Nat.{add-zero, mul-le-mul, lt_of_lt_of_le, div-lt_iff_lt-mul}
+use Prim.Native.Nat.{ℕ, min, max, ◌+◌, ◌*◌, ◌/◌, ◌%◌, ◌≤◌, ◌<◌}
+use native.Mathlib.Nat.{add-zero, mul-le-mul, lt_of_lt_of_le}
 use native.Mathlib.Omega.{arith}
-use borrow.Author.Tests.{eqb-true, eq-eqb}
+use native.Mathlib.Decide.{dec_lt}
+use borrow.Author.Tests.{eqb-true, eq-eqb, lt-ltb, le-ltb}
 use lib.Dec.{eqb}
 use lib.ListN.{length, get_or, set}
 use lib.Seq.{get_or-set_same, get_or-set_other}
@@ -20,7 +21,7 @@ use Rattle.trees.specs.Tables.{cell}
 use Rattle.poll_rules.specs.declared.Quartet.{Quartet}
 use Rattle.poll_rules.specs.Counts.{cell_of, beside, share, adds}
 use Rattle.poll_rules.specs.inner.Quartets.{record_of, Leaves}
-use Rattle.poll_sums.specs.inner.Sums.{together, dealt, with_fourth, of_three, RoomFor, Grown}
+use Rattle.poll_sums.specs.inner.Sums.{together, dealt, with_fourth, of_three, RoomFor, Grown, mirrored_sum}
 use Rattle.poll_rules.proofs.Counts.{shares_le, pairs_apart}
 
 -- there is room for the cells of every poll
@@ -30,14 +31,20 @@ cells_fit n h = mul-le-mul h h
 pub place_fits : (n i j : ℕ) → i < n → j < n → n ≤ most_polled → i * n + j < most_poll_cells
 place_fits n i j hi hj h = lt_of_lt_of_le (place n i j hi hj) (cells_fit n h)
 
-pub row_place : (n r i j : ℕ) → i < n → j < n → n ≤ most_polled → r ≡ i * n → r + j < most_poll_cells
-row_place n r i j hi hj h e = rw e (place_fits n i j hi hj h)
-
--- a place among the cells is in one of the rows
-pub row_fits : (n i j : ℕ) → j < n → i * n + j < n * n → i < n
-row_fits n i j hj h =
-    let z : 0 < n = omega arith in
-    rw (row_of n i j hj) at ((div-lt_iff_lt-mul {x = i * n + j} z).1 h)
+-- of a cell and its mirror cell, the smaller of the two numbers names the row
+pub mirrored_place :
+    (n : ℕ) (t : List ℕ) (i j : ℕ) → get_or t (min i j * n + max i j) 0 ≡ mirrored_sum n t i j
+unfolding mirrored_sum cell
+mirrored_place n t i j = elim (dec_lt i j) [
+  | yes l ↦
+      let low : min i j ≡ i = omega arith in
+      let high : max i j ≡ j = omega arith in
+      rw (lt-ltb i j l, low, high)
+  | no g ↦
+      let low : min i j ≡ j = omega arith in
+      let high : max i j ≡ i = omega arith in
+      rw (le-ltb i j (omega arith), low, high)
+]
 
 -- cells stand apart
 row_same : (n i j x y : ℕ) → j < n → y < n → x * n + y ≡ i * n + j → x ≡ i

@@ -7,20 +7,13 @@ ghost use Rattle.limits.specs.Limits.{most_poll_cells, most_polled};
 ghost use Rattle.trees.specs.Tables.{cell};
 ghost use Rattle.poll_rules.specs.Counts.{cell_of, share, adds};
 ghost use Rattle.poll_rules.specs.inner.Quartets.{record_of, Leaves, next_of};
-ghost use Rattle.poll_sums.specs.inner.Sums.{together, dealt, with_fourth, of_three, Ready, Placed};
+ghost use Rattle.poll_sums.specs.inner.Sums.{together, dealt, with_fourth, of_three, Ready, Above};
 ghost use Rattle.poll_sums.specs.inner.Sums.{most_given, RoomFor, Grown, Added};
 
+use crate::Cell;
 use limits::MOST_POLL_CELLS;
 use poll_records::{Due, begin, next};
 use poll_rules::Quartet;
-
-// A cell above the diagonal, and where it stands among the sums.
-#[derive(Clone, Copy)]
-pub struct Place {
-    pub row: usize,
-    pub column: usize,
-    pub at: usize,
-}
 
 // The shares of the pairings 0, 1 and 2 in one number.
 fn in_one(x: u32, y: u32, z: u32) -> u32
@@ -46,20 +39,19 @@ fn shares_of(code: u8) -> u32
     }
 }
 
-// Adds a share to a cell, which has room for it in 32 bits.
-fn add_share(n: usize, p: Place, share: u32, sums: &mut [u32; MOST_POLL_CELLS])
-    requires { Placed n p × (n ≤ most_polled) × (length sums.old ≡ most_poll_cells)
-        × (cell n sums.old p.row p.column + share < 4294967296) }
+// Adds a share to a cell above the diagonal, which has room for it in 32 bits.
+fn add_share(n: usize, at: Cell, share: u32, sums: &mut [u32; MOST_POLL_CELLS])
+    requires { Above n at × (n ≤ most_polled) × (length sums.old ≡ most_poll_cells)
+        × (cell n sums.old at.row at.column + share < 4294967296) }
     ensures { (length sums.new ≡ most_poll_cells)
-        × Grown n (λ x y. indicator (cell_of p.row p.column x y) share) sums.old sums.new }
+        × Grown n (λ x y. indicator (cell_of at.row at.column x y) share) sums.old sums.new }
 {
-    let k = p.at;
-    sums[k] += share;
+    sums[at.row * n + at.column] += share;
 }
 
 // Deals the three numbers in w to three cells.
-fn deal(n: usize, x: Place, y: Place, z: Place, w: u32, sums: &mut [u32; MOST_POLL_CELLS])
-    requires { Placed n x × Placed n y × Placed n z × (n ≤ most_polled)
+fn deal(n: usize, x: Cell, y: Cell, z: Cell, w: u32, sums: &mut [u32; MOST_POLL_CELLS])
+    requires { Above n x × Above n y × Above n z × (n ≤ most_polled)
         × (length sums.old ≡ most_poll_cells) × RoomFor n w sums.old }
     ensures { (length sums.new ≡ most_poll_cells)
         × Grown n (dealt x.row x.column y.row y.column z.row z.column w)
@@ -71,57 +63,30 @@ fn deal(n: usize, x: Place, y: Place, z: Place, w: u32, sums: &mut [u32; MOST_PO
 }
 
 // Deals shares to the cells of the fourth leaf: with the third, the second and the first.
-fn deal_with_fourth(n: usize, due: Due, w: u32, sums: &mut [u32; MOST_POLL_CELLS])
-    requires { Leaves n due.quartet.a due.quartet.b due.quartet.c due.quartet.d × Ready n due
-        × (n ≤ most_polled) × (length sums.old ≡ most_poll_cells) × RoomFor n w sums.old }
+fn deal_with_fourth(n: usize, q: Quartet, w: u32, sums: &mut [u32; MOST_POLL_CELLS])
+    requires { Leaves n q.a q.b q.c q.d × (n ≤ most_polled)
+        × (length sums.old ≡ most_poll_cells) × RoomFor n w sums.old }
     ensures { (length sums.new ≡ most_poll_cells)
-        × Grown n (with_fourth due.quartet w) sums.old sums.new }
+        × Grown n (with_fourth q w) sums.old sums.new }
 {
-    let q = due.quartet;
-    let d = q.d;
-    let x = Place {
-        row: q.c,
-        column: d,
-        at: due.third + d,
-    };
-    let y = Place {
-        row: q.b,
-        column: d,
-        at: due.second + d,
-    };
-    let z = Place {
-        row: q.a,
-        column: d,
-        at: due.first + d,
-    };
+    let Quartet { a, b, c, d } = q;
+    let x = Cell { row: c, column: d };
+    let y = Cell { row: b, column: d };
+    let z = Cell { row: a, column: d };
     deal(n, x, y, z, w, sums);
 }
 
 // Deals shares to the cells of the first three leaves: first with second, first with third, second with third.
-fn deal_of_three(n: usize, due: Due, w: u32, sums: &mut [u32; MOST_POLL_CELLS])
-    requires { Leaves n due.quartet.a due.quartet.b due.quartet.c due.quartet.d × Ready n due
-        × (n ≤ most_polled) × (length sums.old ≡ most_poll_cells) × RoomFor n w sums.old }
+fn deal_of_three(n: usize, q: Quartet, w: u32, sums: &mut [u32; MOST_POLL_CELLS])
+    requires { Leaves n q.a q.b q.c q.d × (n ≤ most_polled)
+        × (length sums.old ≡ most_poll_cells) × RoomFor n w sums.old }
     ensures { (length sums.new ≡ most_poll_cells)
-        × Grown n (of_three due.quartet w) sums.old sums.new }
+        × Grown n (of_three q w) sums.old sums.new }
 {
-    let q = due.quartet;
-    let b = q.b;
-    let c = q.c;
-    let x = Place {
-        row: q.a,
-        column: b,
-        at: due.first + b,
-    };
-    let y = Place {
-        row: q.a,
-        column: c,
-        at: due.first + c,
-    };
-    let z = Place {
-        row: b,
-        column: c,
-        at: due.second + c,
-    };
+    let Quartet { a, b, c, .. } = q;
+    let x = Cell { row: a, column: b };
+    let y = Cell { row: a, column: c };
+    let z = Cell { row: b, column: c };
     deal(n, x, y, z, w, sums);
 }
 
@@ -133,26 +98,16 @@ pub fn add_record(n: usize, due: Due, code: u8, sums: &mut [u32; MOST_POLL_CELLS
         × Added n due result (adds (record_of due.quartet code)) sums.old sums.new }
 {
     let q = due.quartet;
-    let d = q.d;
     let shares = shares_of(code);
     let kept = due.kept + shares;
-    deal_with_fourth(n, due, shares, sums);
-    if d + 1 < n {
-        let after = Quartet {
-            a: q.a,
-            b: q.b,
-            c: q.c,
-            d: d + 1,
-        };
+    deal_with_fourth(n, q, shares, sums);
+    if q.d + 1 < n {
         return Due {
-            quartet: after,
+            quartet: Quartet { d: q.d + 1, ..q },
             leaves: due.leaves + 16777216,
-            first: due.first,
-            second: due.second,
-            third: due.third,
             kept,
         };
     }
-    deal_of_three(n, due, kept, sums);
-    begin(n, next(n, q))
+    deal_of_three(n, q, kept, sums);
+    begin(next(n, q))
 }

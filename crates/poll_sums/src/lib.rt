@@ -3,3 +3,10 @@
 
 pub mod adding;
 pub mod writing;
+
+// A cell of a table.
+#[derive(Clone, Copy)]
+pub struct Cell {
+    pub row: usize,
+    pub column: usize,
+}

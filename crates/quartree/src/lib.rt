@@ -39,9 +39,9 @@ ghost use Rattle.record_operations.specs.Operations.{rebuild_record, guided_reco
 ghost use Rattle.record_operations.specs.Operations.{restandardise_record};
 ghost use Rattle.record_replies.specs.Replies.{record_reply};
 
-use limits::kind_of;
+use limits::Kind;
 use sets::Combination;
-use tree_records::origin_of;
+use tree_records::Origin;
 
 // The version that the archive was built from, in one number. Nothing is refused.
 #[unsafe(no_mangle)]
@@ -56,7 +56,7 @@ pub extern "C" fn quartree_version() -> u32
 pub extern "C" fn quartree_check(n: usize, listing: &[u16]) -> u64
     ensures { result ≡ reply (check_answer n listing.now) }
 {
-    replies::reply_of(listings::check(n, listing))
+    replies::reply(listings::check(n, listing))
 }
 
 // The standard listing of the tree that a listing stands for: 1, 2, 3, 7, 8.
@@ -66,7 +66,7 @@ pub extern "C" fn quartree_standardise(n: usize, listing: &[u16], out: &mut [u16
     ensures buffer { out.new
         ≡ written (standardise_answer n listing.now (length out.old)) out.old }
 {
-    replies::reply_of(standard_listings::standardise(n, listing, out))
+    replies::reply(standard_listings::standardise(n, listing, out))
 }
 
 // The standard listing of a record's tree, and its origin's number as the figure: 1, 2, 3, 7, 8.
@@ -82,12 +82,7 @@ pub extern "C" fn quartree_restandardise(
     ensures buffer { out.new
         ≡ written (standardise_answer n listing.now (length out.old)) out.old }
 {
-    record_replies::record_reply(record_operations::restandardise(
-        n,
-        origin_of(origin),
-        listing,
-        out,
-    ))
+    replies::reply(record_operations::restandardise(n, Origin::from(origin), listing, out))
 }
 
 // The splits of the tree that a listing stands for, as leaf sets: 1, 2, 3, 7, 8.
@@ -97,7 +92,7 @@ pub extern "C" fn quartree_splits(n: usize, listing: &[u16], out: &mut [u8]) -> 
     ensures buffer { out.new
         ≡ written (splits_answer n listing.now (length out.old)) out.old }
 {
-    replies::reply_of(splits::splits(n, listing, out))
+    replies::reply(splits::splits(n, listing, out))
 }
 
 // The leaves of either of two leaf sets: 2, 3.
@@ -109,7 +104,7 @@ pub extern "C" fn quartree_set_join(a: &[u8], b: &[u8], out: &mut [u8]) -> u64
         ≡ written (combine_answer Union a.now b.now (length out.old))
         out.old }
 {
-    replies::reply_of(lent_sets::combine(Combination::Union, a, b, out))
+    replies::reply(lent_sets::combine(Combination::Union, a, b, out))
 }
 
 // The leaves of both of two leaf sets: 2, 3.
@@ -121,7 +116,7 @@ pub extern "C" fn quartree_set_intersect(a: &[u8], b: &[u8], out: &mut [u8]) -> 
         ≡ written (combine_answer Intersection a.now b.now (length out.old))
         out.old }
 {
-    replies::reply_of(lent_sets::combine(Combination::Intersection, a, b, out))
+    replies::reply(lent_sets::combine(Combination::Intersection, a, b, out))
 }
 
 // Whether two leaf sets are equal, 1 or 0 as the figure: 2.
@@ -129,7 +124,7 @@ pub extern "C" fn quartree_set_intersect(a: &[u8], b: &[u8], out: &mut [u8]) -> 
 pub extern "C" fn quartree_set_equal(a: &[u8], b: &[u8]) -> u64
     ensures { result ≡ verdict_reply (equal_answer a.now b.now) }
 {
-    replies::verdict_reply(lent_sets::equal(a, b))
+    replies::reply(lent_sets::equal(a, b))
 }
 
 // How the tree that a listing stands for pairs four leaves: 1, 2, 7, 8, 9.
@@ -137,7 +132,7 @@ pub extern "C" fn quartree_set_equal(a: &[u8], b: &[u8]) -> u64
 pub extern "C" fn quartree_pairing(n: usize, listing: &[u16], question: &[u16]) -> u64
     ensures { result ≡ number_reply (lent_pairing_answer n listing.now question.now) }
 {
-    pairings::paired_reply(pairings::lent_pairing(n, listing, question))
+    replies::reply(pairings::lent_pairing(n, listing, question))
 }
 
 // The table of the tree that a listing stands for: 1, 2, 3, 7, 8.
@@ -147,7 +142,7 @@ pub extern "C" fn quartree_table(n: usize, listing: &[u16], out: &mut [u32]) -> 
     ensures buffer { out.new
         ≡ written (table_answer n listing.now (length out.old)) out.old }
 {
-    replies::reply_of(tree_tables::table(n, listing, out))
+    replies::reply(tree_tables::table(n, listing, out))
 }
 
 // The gap between a table and the tree that a listing stands for: 1, 2, 3, 7, 8, 4, 5.
@@ -165,7 +160,7 @@ pub extern "C" fn quartree_gap(
         (gap_answer (kind_of poll) n cells.now listing.now (length out.old))
         out.old }
 {
-    replies::reply_of(gaps::gap(kind_of(poll), n, cells, listing, out))
+    replies::reply(gaps::gap(Kind::from(poll), n, cells, listing, out))
 }
 
 // Our own rebuild, and rebuilt as the figure: 1, 2, 3, 4, 5, 6.
@@ -179,7 +174,7 @@ pub extern "C" fn quartree_rebuild(n: usize, poll: u32, cells: &[u32], out: &mut
         (RebuildMeans (kind_of poll) n cells.now (length out.old)) result
         out.old out.new }
 {
-    record_replies::record_reply(record_operations::rebuild(kind_of(poll), n, cells, out))
+    replies::reply(record_operations::rebuild(Kind::from(poll), n, cells, out))
 }
 
 // A tree even from a rough table, and its origin and total gap as the figure: 1, 2, 3, 4, 5.
@@ -193,7 +188,7 @@ pub extern "C" fn quartree_guess(n: usize, poll: u32, cells: &[u32], out: &mut [
         (GuessMeans (kind_of poll) n cells.now (length out.old)) result
         out.old out.new }
 {
-    guess_replies::guess_reply(guesses::guess(kind_of(poll), n, cells, out))
+    replies::reply(guesses::guess(Kind::from(poll), n, cells, out))
 }
 
 // The guided rebuild, and rebuilt as the figure: 1, 2, 3, 4, 5, 12.
@@ -214,13 +209,7 @@ pub extern "C" fn quartree_rebuild_guided(
         (GuidedMeans (kind_of poll) n cells.now merges.now (length out.old)) result
         out.old out.new }
 {
-    record_replies::record_reply(record_operations::rebuild_guided(
-        kind_of(poll),
-        n,
-        cells,
-        merges,
-        out,
-    ))
+    replies::reply(record_operations::rebuild_guided(Kind::from(poll), n, cells, merges, out))
 }
 
 // Leaf n grafted on an edge: the listing and the table of the new tree, and grafted as the figure: 1, 2, 3, 7, 8, 4,
@@ -241,7 +230,7 @@ pub extern "C" fn quartree_graft(
     ensures table { cells.new ≡ written (change_table n listing.now table.now
         (Graft edge) (length out.old) (length cells.old)) cells.old }
 {
-    record_replies::record_reply(tree_changes::graft(n, listing, table, edge, out, cells))
+    replies::reply(tree_changes::graft(n, listing, table, edge, out, cells))
 }
 
 // The total gap to a new table of n + 1 leaves that the tree would have with leaf n grafted on an edge, as the figure:
@@ -258,7 +247,7 @@ pub extern "C" fn quartree_look(
     ensures { result ≡ number_reply (look_answer (kind_of poll) n listing.now table.now
         new.now edge) }
 {
-    looks::look_reply(looks::look(kind_of(poll), n, listing, table, new, edge))
+    replies::reply(looks::look(Kind::from(poll), n, listing, table, new, edge))
 }
 
 // The same for every edge, 1 to 2n - 3, written in this order: 1, 2, 3, 7, 8, 4, 5, 20, then 4, 5 of the new table.
@@ -276,7 +265,7 @@ pub extern "C" fn quartree_look_all(
     ensures buffer { out.new ≡ written (look_all_answer (kind_of poll) n listing.now
         table.now new.now (length out.old)) out.old }
 {
-    replies::reply_of(looks::look_all(kind_of(poll), n, listing, table, new, out))
+    replies::reply(looks::look_all(Kind::from(poll), n, listing, table, new, out))
 }
 
 // A leaf pruned: the same of the tree without it.
@@ -296,7 +285,7 @@ pub extern "C" fn quartree_prune(
     ensures table { cells.new ≡ written (change_table n listing.now table.now
         (Prune leaf) (length out.old) (length cells.old)) cells.old }
 {
-    record_replies::record_reply(tree_changes::prune(n, listing, table, leaf, out, cells))
+    replies::reply(tree_changes::prune(n, listing, table, leaf, out, cells))
 }
 
 // Whether a sheet keeps the rules, and its leaf count as the figure: 13, 1, 14, 15, 16.
@@ -304,8 +293,7 @@ pub extern "C" fn quartree_prune(
 pub extern "C" fn quartree_check_sheet(sheet: &[u8]) -> u64
     ensures { result ≡ reply_with (leaves_of sheet.now) (check_sheet_answer sheet.now) }
 {
-    let figures = sheets::figures_of(sheet);
-    replies::reply_with(figures.leaves, sheets::judge_sheet(sheet, figures, 0, 0))
+    replies::reply_with(sheets::leaf_count_of(sheet), sheets::check_sheet(sheet))
 }
 
 // The table of a sheet, and its leaf count as the figure: 13, 1, 14, 3, 15, 16.
@@ -316,8 +304,10 @@ pub extern "C" fn quartree_sheet_table(sheet: &[u8], out: &mut [u32]) -> u64
     ensures buffer { out.new
         ≡ written (sheet_table_answer sheet.now (length out.old)) out.old }
 {
-    let figures = sheets::figures_of(sheet);
-    replies::reply_with(figures.leaves, sheet_tables::table_of(sheet, figures, out))
+    replies::reply_with(
+        sheets::leaf_count_of(sheet),
+        sheet_tables::sheet_table(sheet, out),
+    )
 }
 
 // The name of a leaf: as the figure 256 times the place of its first byte in the sheet, and its length: 13, 1, 14, 15,
@@ -328,7 +318,7 @@ pub extern "C" fn quartree_sheet_name(sheet: &[u8], leaf: usize) -> u64
         ≡ reply_with (256 * (name_start sheet.now leaf + 1) + length (name sheet.now leaf))
         (name_answer sheet.now (leaves_of sheet.now) (offset_of sheet.now) leaf) }
 {
-    sheet_names::place_reply(sheet_names::name_place(sheet, leaf))
+    replies::reply(sheet_names::name_place(sheet, leaf))
 }
 
 // The Newick text of the tree that a listing stands for, with the names of a sheet, and its length as the figure: 13,
@@ -341,9 +331,7 @@ pub extern "C" fn quartree_export(sheet: &[u8], listing: &[u16], text: &mut [u8]
         ≡ written (export_answer sheet.now listing.now (length text.old))
         text.old }
 {
-    let exported = newick_export::export(sheet, listing, text);
-    let outcome = exported.outcome;
-    replies::reply_with(exported.length, outcome)
+    replies::reply(newick_export::export(sheet, listing, text))
 }
 
 // The standard listing of the tree that a Newick text draws, with the names of a sheet, and imported as the figure: 13,
@@ -359,7 +347,7 @@ pub extern "C" fn quartree_import(sheet: &[u8], text: &[u8], out: &mut [u16]) ->
         (ImportMeans sheet.now text.now (length out.old)) result
         out.old out.new }
 {
-    record_replies::record_reply(record_operations::import(sheet, text, out))
+    replies::reply(record_operations::import(sheet, text, out))
 }
 
 // A poll added up: 1, 2, 3, 10, 11.
@@ -369,7 +357,7 @@ pub extern "C" fn quartree_poll(n: usize, records: &[polls::Record], out: &mut [
     ensures buffer { out.new
         ≡ written (poll_answer n records.now (length out.old)) out.old }
 {
-    replies::reply_of(polls::poll(n, records, out))
+    replies::reply(polls::poll(n, records, out))
 }
 
 // The tree of a strain sheet: sheet bytes in, listing bytes out (4(n - 2) of them, low byte first), and 0 or the

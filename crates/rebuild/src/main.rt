@@ -7,7 +7,7 @@ ghost use Rattle.std.specs.Prelude.{◌≡◌, ◌<◌, ◌≤◌, IfOk, length,
 ghost use Rattle.std.specs.Io.KnownBytes.{Consumes, IsAtEnd};
 ghost use Rattle.limits.specs.Limits.{most_leaves};
 
-use guesses::GuessOutcome;
+use guesses::Found;
 use std::io;
 use std::io::Read;
 use tree_records::Origin;
@@ -28,6 +28,7 @@ fn read_full<R: Read>(input: &mut R, buffer: &mut [u8]) -> io::Result<usize>
         → IsAtEnd (R.remaining input.new)) }
 {
     let mut got: usize = 0;
+    // A while: each read says how far it goes.
     while got < buffer.len() {
         let many = input.read(&mut buffer[got..])?;
         if many == 0 {
@@ -38,46 +39,30 @@ fn read_full<R: Read>(input: &mut R, buffer: &mut [u8]) -> io::Result<usize>
     Ok(got)
 }
 
-fn print_number(rt: &impl Print, number: usize) -> io::Result<()> {
-    print!(rt; "{number}")
-}
-
-fn print_child(rt: &impl Print, child: u16) -> io::Result<()> {
-    print!(rt; " {child}")
-}
-
 // The rows of a listing of n leaves.
 fn print_rows(rt: &impl Print, n: usize, listing: &[u16; LISTING]) -> io::Result<()>
     requires { n ≤ most_leaves }
 {
-    let mut k: usize = 0;
-    while k + 2 < n {
-        print_number(rt, n + k)?;
-        print_child(rt, listing[2 * k])?;
-        print_child(rt, listing[2 * k + 1])?;
-        println!(rt)?;
-        k += 1;
+    for k in 0..n.saturating_sub(2) {
+        println!(rt; "{} {} {}", n + k, listing[2 * k], listing[2 * k + 1])?;
     }
     Ok(())
 }
 
 // The leaf count, after a word for where the tree came from.
 fn print_count(rt: &impl Print, origin: Origin, n: usize) -> io::Result<()> {
-    if let Origin::Guessed = origin {
-        print!(rt; "guess ")?;
-    } else {
-        print!(rt; "leaves ")?;
+    match origin {
+        Origin::Guessed => println!(rt; "guess {n}"),
+        _ => println!(rt; "leaves {n}"),
     }
-    print_number(rt, n)?;
-    println!(rt)
 }
 
 // The total gap of a guess.
 fn print_total(rt: &impl Print, origin: Origin, total: u64) -> io::Result<()> {
-    if let Origin::Guessed = origin {
-        println!(rt; "{total}")?;
+    match origin {
+        Origin::Guessed => println!(rt; "{total}"),
+        _ => Ok(()),
     }
-    Ok(())
 }
 
 fn main(rt: HostRuntime) -> io::Result<()> {
@@ -85,8 +70,8 @@ fn main(rt: HostRuntime) -> io::Result<()> {
     let got = read_full(&mut rt.stdin(), &mut input)?;
     let mut listing = [0u16; LISTING];
     let answer = guesses::guess_sheet(&input[..got], &mut listing);
-    let GuessOutcome::Tree(origin, total) = answer else {
-        let number = guess_replies::guess_number(answer);
+    let Ok(Found { origin, total }) = answer else {
+        let number = replies::answer_number(answer);
         return println!(rt; "refused {number}");
     };
     let n = sheets::leaf_count_of(&input[..got]);

@@ -3,11 +3,11 @@
 #![tactic(auto)]
 
 use case_lines::{say_listing, say_number, say_tree};
-use guesses::GuessOutcome;
+use guesses::Found;
 use limits::Kind;
 use refusals::Refusal;
 use std::io;
-use tree_records::{Origin, TreeOutcome};
+use tree_records::Origin;
 
 // P7's table.
 const FIVE: [u32; 25] = [
@@ -17,7 +17,12 @@ const FIVE: [u32; 25] = [
 // A table of five leaves by our own rebuild.
 fn rebuild(rt: &impl Print, words: &[u8], cells: &[u32]) -> io::Result<()> {
     let mut listing = [9u16; 6];
-    let answer: TreeOutcome = record_operations::rebuild(Kind::Counts, 5, cells, &mut listing);
+    let answer: Result<Origin, Refusal> = record_operations::rebuild(
+        Kind::Counts,
+        5,
+        cells,
+        &mut listing,
+    );
     say_tree(rt, words, answer)?;
     say_listing(rt, &listing)
 }
@@ -34,7 +39,7 @@ fn rebuilt(rt: &impl Print) -> io::Result<()> {
 // A table of five leaves guided by these merges.
 fn guide(rt: &impl Print, words: &[u8], cells: &[u32], merges: &[u16]) -> io::Result<()> {
     let mut listing = [9u16; 6];
-    let answer: TreeOutcome = record_operations::rebuild_guided(
+    let answer: Result<Origin, Refusal> = record_operations::rebuild_guided(
         Kind::Counts,
         5,
         cells,
@@ -74,19 +79,15 @@ fn refused_proposals(rt: &impl Print, cells: &[u32]) -> io::Result<()> {
 
 // A guess that is accepted, with its total gap; and one that is refused.
 fn say_total(rt: &impl Print, words: &[u8], origin: Origin, total: u64) -> io::Result<()> {
-    say_tree(rt, words, TreeOutcome::Marked(origin))?;
+    say_tree(rt, words, Ok(origin))?;
     say_number(rt, b" with the total gap ", total)
 }
 
-fn say_refused(rt: &impl Print, words: &[u8], cause: Refusal) -> io::Result<()> {
-    say_tree(rt, words, TreeOutcome::Refused(cause))
-}
-
 // What the guess answers.
-fn say_guess(rt: &impl Print, words: &[u8], answer: GuessOutcome) -> io::Result<()> {
+fn say_guess(rt: &impl Print, words: &[u8], answer: Result<Found, Refusal>) -> io::Result<()> {
     match answer {
-        GuessOutcome::Tree(origin, total) => say_total(rt, words, origin, total),
-        GuessOutcome::Refused(cause) => say_refused(rt, words, cause),
+        Ok(Found { origin, total }) => say_total(rt, words, origin, total),
+        Err(cause) => say_tree(rt, words, Err(cause)),
     }
 }
 

@@ -17,11 +17,12 @@ ghost use Rattle.record_operations.specs.Operations.{rebuild_record, sheet_recor
 ghost use Rattle.record_operations.specs.Operations.{lent_record, import_record, restandardise_record};
 
 use limits::Kind;
-use tree_records::{Origin, TreeOutcome, mark};
+use refusals::Refusal;
+use tree_records::{Origin, mark};
 
 // Our own rebuild of a table of this kind: writes the standard listing of the tree that has it at the front of `out`,
 // and marks it rebuilt.
-pub fn rebuild(kind: Kind, n: usize, table: &[u32], out: &mut [u16]) -> TreeOutcome
+pub fn rebuild(kind: Kind, n: usize, table: &[u32], out: &mut [u16]) -> Result<Origin, Refusal>
     ensures answer { result
         ≡ tree_outcome (rebuild_record kind n table.now (length out.old)) }
     ensures buffer { out.new
@@ -34,7 +35,7 @@ pub fn rebuild(kind: Kind, n: usize, table: &[u32], out: &mut [u16]) -> TreeOutc
 }
 
 // The same of a sheet's table.
-pub fn rebuild_sheet(sheet: &[u8], out: &mut [u16]) -> TreeOutcome
+pub fn rebuild_sheet(sheet: &[u8], out: &mut [u16]) -> Result<Origin, Refusal>
     ensures answer { result ≡ tree_outcome (sheet_record sheet.now (length out.old)) }
     ensures buffer { out.new
         ≡ written (sheet_listing_answer sheet.now (length out.old)) out.old }
@@ -50,7 +51,7 @@ pub fn rebuild_guided(
     table: &[u32],
     merges: &[u16],
     out: &mut [u16],
-) -> TreeOutcome
+) -> Result<Origin, Refusal>
     ensures answer { result ≡ tree_outcome
         (guided_record kind n table.now merges.now (length out.old)) }
     ensures buffer { out.new
@@ -67,14 +68,14 @@ pub fn rebuild_guided(
 }
 
 // A lent listing as a tree record: where it keeps the rules, its tree is listed.
-pub fn lend(n: usize, listing: &[u16]) -> TreeOutcome
+pub fn lend(n: usize, listing: &[u16]) -> Result<Origin, Refusal>
     ensures { result ≡ tree_outcome (lent_record n listing.now) }
 {
     mark(Origin::Listed, listings::check(n, listing))
 }
 
 // Import with the names of a sheet: writes the standard listing of the tree that a text draws, and marks it imported.
-pub fn import(sheet: &[u8], text: &[u8], out: &mut [u16]) -> TreeOutcome
+pub fn import(sheet: &[u8], text: &[u8], out: &mut [u16]) -> Result<Origin, Refusal>
     ensures answer { result
         ≡ tree_outcome (import_record sheet.now text.now (length out.old)) }
     ensures buffer { out.new
@@ -88,7 +89,12 @@ pub fn import(sheet: &[u8], text: &[u8], out: &mut [u16]) -> TreeOutcome
 }
 
 // Writes the standard listing of a record's tree at the front of `out`: the tree and its origin stay.
-pub fn restandardise(n: usize, origin: Origin, listing: &[u16], out: &mut [u16]) -> TreeOutcome
+pub fn restandardise(
+    n: usize,
+    origin: Origin,
+    listing: &[u16],
+    out: &mut [u16],
+) -> Result<Origin, Refusal>
     ensures answer { result
         ≡ tree_outcome (restandardise_record n listing.now origin (length out.old)) }
     ensures buffer { out.new

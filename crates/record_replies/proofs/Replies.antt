@@ -1,20 +1,21 @@
 -- What the reply of a call that makes a tree record tells. Of a rebuilt tree it is 0 exactly when the call is accepted.
+use Rattle.std.specs.Prelude.{Result}
 use mathlib.Core.Path.{◌≡◌, refl}
 use mathlib.Core.List.{List}
 use Prim.Native.Nat.{ℕ}
+use Rattle.refusals.specs.declared.Refusal.{Refusal}
 use Rattle.refusals.specs.Refusals.{Answer, accepted, refused}
 use Rattle.tree_records.specs.declared.Origin.{Origin}
 use Rattle.tree_records.specs.declared.Origin.TheVariants.{Rebuilt}
-use Rattle.tree_records.specs.declared.TreeOutcome.{TreeOutcome}
 use Rattle.tree_records.specs.Origins.{origin_number}
 use Rattle.tree_records.specs.Records.{TreeRecord, marked, tree_outcome}
 use Rattle.replies.specs.Replies.{reply, reply_with}
+use Rattle.replies.specs.inner.Told.{told_reply}
 use Rattle.record_replies.specs.Replies.{record_reply}
-use Rattle.record_replies.specs.inner.Outcomes.{tree_outcome_reply}
 
 -- the reply, as code makes it of the answer q
 pub record_replied :
-    {r : ℕ} {q : TreeOutcome} (a : Answer TreeRecord) → r ≡ tree_outcome_reply q → q ≡ tree_outcome a
+    {r : ℕ} {q : Result Origin Refusal} (a : Answer TreeRecord) → r ≡ told_reply origin_number q → q ≡ tree_outcome a
     → r ≡ record_reply a
 unfolding tree_outcome record_reply
 record_replied (accepted R) h e = rw e at h

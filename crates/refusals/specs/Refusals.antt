@@ -1,14 +1,12 @@
 -- The causes of refusal (01, "Causes of refusal"; 02): the number of each, and the figures returned with it; and
 -- answers. The causes themselves are the cases of the enum `Refusal` in src/lib.rt.
-use Rattle.std.specs.Prelude.{Bool, cond, List, [], ◌∷◌, ◌++◌, ℕ, length, drop}
+use Rattle.std.specs.Prelude.{Bool, cond, List, [], ◌∷◌, ◌++◌, ℕ, length, drop, Result, Ok, Err}
 use Rattle.std.proofs.Math.Option.{Option, none, some}
 use Rattle.refusals.specs.declared.Refusal.{Refusal}
 use Rattle.refusals.specs.declared.Refusal.TheVariants.{LeafCount, InputLength, OutputRoom, Diagonal, Halves}
 use Rattle.refusals.specs.declared.Refusal.TheVariants.{NoTree, Child, NamedBefore, Question, Record}
 use Rattle.refusals.specs.declared.Refusal.TheVariants.{PairingCode, Proposal, SheetEnds, SheetLength}
 use Rattle.refusals.specs.declared.Refusal.TheVariants.{Name, SameName, Grammar, NotBinary, Unmatched, NotOwn}
-use Rattle.refusals.specs.declared.Outcome.{Outcome}
-use Rattle.refusals.specs.declared.Outcome.TheVariants.{Done, Refused}
 
 -- the number of a refusal
 abbrev pub number_of : Refusal → ℕ
@@ -81,15 +79,24 @@ unfoldable pub unless : {A : Type 0} → Option Refusal → Answer A → Answer 
 unless none a = a
 unless (some r) a = refused r
 
--- what code returns where no refusal arises, or this one
-unfoldable pub outcome_of : Option Refusal → Outcome
-outcome_of none = Done
-outcome_of (some r) = Refused r
+-- what code returns of an operation whose result, if it has one, stands in a lent buffer
+abbrev pub Outcome : Type 0
+Outcome = Result (Unit {0}) Refusal
 
--- the answer as the enum that code returns
+-- the outcome where no refusal arises, or this one
+unfoldable pub outcome_of : Option Refusal → Outcome
+outcome_of none = Ok tt
+outcome_of (some r) = Err r
+
+-- the outcome of an answer
 unfoldable pub outcome : {A : Type 0} → Answer A → Outcome
-outcome (accepted x) = Done
-outcome (refused r) = Refused r
+outcome (accepted x) = Ok tt
+outcome (refused r) = Err r
+
+-- what code returns of an operation that returns its result
+unfoldable pub returned : {A : Type 0} → Answer A → Result A Refusal
+returned (accepted x) = Ok x
+returned (refused r) = Err r
 
 -- a lent buffer afterwards: the result, and cells beyond it as they were; a refusal leaves all as it was
 unfoldable pub written : {A : Type 0} → Answer (List A) → List A → List A

@@ -3,8 +3,11 @@
 ghost use Rattle.std.specs.Prelude.{◌≡◌};
 ghost use Rattle.refusals.specs.Refusals.{number_of};
 
+use std::error::Error;
+use std::fmt;
+
 // The causes of refusal, in the order of their numbers. A figure counts from 0.
-#[derive(Clone, Copy)]
+#[derive(Clone, Copy, Debug, PartialEq, Eq)]
 pub enum Refusal {
     // 1: the leaf count is outside 3 to 128 (of a poll and of its table, 4 to 32)
     LeafCount,
@@ -48,45 +51,47 @@ pub enum Refusal {
     NotOwn,
 }
 
-// What an operation answers when its result, if it has one, stands in a lent buffer.
-#[derive(Clone, Copy)]
-pub enum Outcome {
-    Done,
-    Refused(Refusal),
-}
-
-// What an operation answers that says yes or no.
-#[derive(Clone, Copy)]
-pub enum Verdict {
-    Yes,
-    No,
-    Refused(Refusal),
-}
-
 // The number of a refusal.
-pub fn number(r: Refusal) -> u32
-    ensures { result ≡ number_of r }
-{
-    match r {
-        Refusal::LeafCount => 1,
-        Refusal::InputLength => 2,
-        Refusal::OutputRoom => 3,
-        Refusal::Diagonal(_) => 4,
-        Refusal::Halves(_, _) => 5,
-        Refusal::NoTree => 6,
-        Refusal::Child(_) => 7,
-        Refusal::NamedBefore(_) => 8,
-        Refusal::Question(_) => 9,
-        Refusal::Record(_) => 10,
-        Refusal::PairingCode(_) => 11,
-        Refusal::Proposal(_) => 12,
-        Refusal::SheetEnds => 13,
-        Refusal::SheetLength => 14,
-        Refusal::Name(_) => 15,
-        Refusal::SameName(_) => 16,
-        Refusal::Grammar(_) => 17,
-        Refusal::NotBinary => 18,
-        Refusal::Unmatched => 19,
-        Refusal::NotOwn => 20,
+impl From<Refusal> for u32 {
+    ghost from_gives = { λ cause number. number ≡ number_of cause };
+
+    fn from(cause: Refusal) -> u32 {
+        match cause {
+            Refusal::LeafCount => 1,
+            Refusal::InputLength => 2,
+            Refusal::OutputRoom => 3,
+            Refusal::Diagonal(_) => 4,
+            Refusal::Halves(_, _) => 5,
+            Refusal::NoTree => 6,
+            Refusal::Child(_) => 7,
+            Refusal::NamedBefore(_) => 8,
+            Refusal::Question(_) => 9,
+            Refusal::Record(_) => 10,
+            Refusal::PairingCode(_) => 11,
+            Refusal::Proposal(_) => 12,
+            Refusal::SheetEnds => 13,
+            Refusal::SheetLength => 14,
+            Refusal::Name(_) => 15,
+            Refusal::SameName(_) => 16,
+            Refusal::Grammar(_) => 17,
+            Refusal::NotBinary => 18,
+            Refusal::Unmatched => 19,
+            Refusal::NotOwn => 20,
+        }
     }
 }
+
+// The number, and where a program says more, the figure: 11 comes with its record, 12 with its step, 15 with its leaf.
+impl fmt::Display for Refusal {
+    fn fmt<W: fmt::Write>(&self, f: &mut fmt::Formatter<W>) -> fmt::Result {
+        let number = u32::from(*self);
+        match self {
+            Refusal::PairingCode(record) => write!(f, "{number} at record {record}"),
+            Refusal::Proposal(step) => write!(f, "{number} at step {step}"),
+            Refusal::Name(leaf) => write!(f, "{number} with {leaf}"),
+            _ => write!(f, "{number}"),
+        }
+    }
+}
+
+impl Error for Refusal {}

@@ -1,20 +1,18 @@
 -- What a reply tells: its bits 0 to 7 are the number, the bits above are the lowest 56 bits of the figure, and two
 -- numbers in one figure can be taken apart again; it is 0 exactly when the call is accepted with nothing to say.
+use Rattle.std.specs.Prelude.{Result, Ok, Err}
 use mathlib.Core.Path.{◌≡◌, refl, ap, sym, ◌∙◌}
 use mathlib.Core.Logic.{◌↔◌}
 use mathlib.Core.Bool.{Bool, true, false, cond}
 use Prim.Native.Nat.{ℕ, ◌+◌, ◌*◌, ◌/◌, ◌%◌, ◌<◌}
 use native.Mathlib.Omega.{arith}
-use Rattle.refusals.specs.declared.Outcome.{Outcome}
+use Rattle.refusals.specs.declared.Refusal.{Refusal}
 use Rattle.refusals.specs.declared.Refusal.TheVariants.{Halves, NoTree}
-use Rattle.refusals.specs.declared.Verdict.{Verdict}
-use Rattle.refusals.specs.Refusals.{number_of, figures_of, Answer, accepted, refused, outcome}
-use Rattle.refusals.specs.Verdicts.{verdict}
+use Rattle.refusals.specs.Refusals.{Outcome, number_of, figures_of, Answer, accepted, refused, outcome, returned}
 use Rattle.refusals.proofs.Answers.{accepted_not_refused, accepted_same}
 use Rattle.replies.specs.Replies.{eight_bits, figure_limit, in_one, figure, reply, number_reply, reply_with}
 use Rattle.replies.specs.Replies.{verdict_reply, number_alone}
-use Rattle.replies.specs.inner.Outcomes.{outcome_reply, outcome_reply_with, outcome_number}
-use Rattle.replies.specs.inner.Verdicts.{told_verdict}
+use Rattle.replies.specs.inner.Told.{told_reply, told_number}
 use Rattle.replies.proofs.Numbers.{numbered}
 
 -- A number of eight bits and a figure, taken apart: a figure below the limit is told whole.
@@ -117,19 +115,19 @@ module _ {A : Type 0} where
 
   -- The reply to an answer, as code makes it of the outcome q.
   module _ {r : ℕ} {q : Outcome} where
-    pub replied : (a : Answer A) → r ≡ outcome_reply q → q ≡ outcome a → r ≡ reply a
+    pub replied : (a : Answer A) → r ≡ told_reply (λ _. 0) q → q ≡ outcome a → r ≡ reply a
     unfolding outcome reply
     replied (accepted x) h e = rw e at h
     replied (refused x) h e = rw e at h
 
     pub replied_with :
-        (x y : ℕ) (a : Answer A) → r ≡ outcome_reply_with x q → x % figure_limit ≡ y % figure_limit
+        (x y : ℕ) (a : Answer A) → r ≡ told_reply (λ _. x) q → x % figure_limit ≡ y % figure_limit
         → q ≡ outcome a → r ≡ reply_with y a
     unfolding outcome reply_with
     replied_with x y (accepted z) h s e = rw (e, s) at h
     replied_with x y (refused z) h s e = rw e at h
 
-    pub said_alone : (a : Answer A) → r ≡ outcome_number q → q ≡ outcome a → r ≡ number_alone a
+    pub said_alone : (a : Answer A) → r ≡ told_number q → q ≡ outcome a → r ≡ number_alone a
     unfolding outcome number_alone
     said_alone (accepted x) h e = rw e at h
     said_alone (refused x) h e = rw e at h
@@ -139,6 +137,12 @@ number_reply_is : (a : Answer ℕ) → number_reply a ≡ reply_with (result_or_
 unfolding number_reply reply_with
 number_reply_is (accepted x) = refl
 number_reply_is (refused r) = refl
+
+pub number_replied :
+    {r : ℕ} {q : Result ℕ Refusal} (a : Answer ℕ) → r ≡ told_reply (λ k. k) q → q ≡ returned a → r ≡ number_reply a
+unfolding returned number_reply
+number_replied (accepted x) h e = rw e at h
+number_replied (refused x) h e = rw e at h
 
 pub number_reply_number : (a : Answer ℕ) → number_reply a % eight_bits ≡ number_alone a
 number_reply_number a = ap (λ k. k % eight_bits) (number_reply_is a) ∙ reply_with_number (result_or_0 a) a
@@ -156,7 +160,7 @@ number_reply_zero (refused r) l = unfold number_reply in (
   λ h. absurd (accepted_not_refused 0 r (sym h)),
 )
 
--- The reply of a call that says yes or no: the number, and the figure 1 or 0; and as code makes it of the verdict v.
+-- The reply of a call that says yes or no: the number, and the figure 1 or 0; and as code makes it of what is returned.
 yes_or_no : Answer Bool → ℕ
 yes_or_no (accepted b) = cond b 1 0
 yes_or_no (refused r) = 0
@@ -175,8 +179,8 @@ verdict_figure true = refl
 verdict_figure false = refl
 
 pub verdict_replied :
-    {r : ℕ} {v : Verdict} (a : Answer Bool) → r ≡ told_verdict v → v ≡ verdict a → r ≡ verdict_reply a
-unfolding verdict verdict_reply
-verdict_replied (accepted true) h e = rw e at h
-verdict_replied (accepted false) h e = rw e at h
+    {r : ℕ} {v : Result Bool Refusal} (a : Answer Bool) → r ≡ told_reply (λ b. cond b 1 0) v → v ≡ returned a
+    → r ≡ verdict_reply a
+unfolding returned verdict_reply
+verdict_replied (accepted b) h e = rw e at h
 verdict_replied (refused x) h e = rw e at h

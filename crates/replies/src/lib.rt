@@ -1,13 +1,12 @@
 // The reply of a C call: the number of a refusal, or 0, and a figure, in one number of 64 bits.
 #![tactic(auto)]
 
-ghost use Rattle.std.specs.Prelude.{◌≡◌, ◌+◌, ◌*◌, ◌%◌, ◌<◌};
+ghost use Rattle.std.specs.Prelude.{◌≡◌, cond, ℕ, ◌+◌, ◌*◌, ◌%◌, ◌<◌};
 ghost use Rattle.refusals.specs.Refusals.{figures_of};
 ghost use Rattle.replies.specs.Replies.{eight_bits, figure_limit, figure, in_one, refusal_reply};
-ghost use Rattle.replies.specs.inner.Outcomes.{outcome_reply, outcome_reply_with, outcome_number};
-ghost use Rattle.replies.specs.inner.Verdicts.{told_verdict};
+ghost use Rattle.replies.specs.inner.Told.{told_reply, told_number};
 
-use refusals::{Outcome, Refusal, Verdict};
+use refusals::Refusal;
 
 // How many numbers eight bits hold, and how many 56 do.
 const EIGHT_BITS: usize = 256;
@@ -61,43 +60,91 @@ fn figure_of(r: Refusal) -> usize
 pub fn refusal_reply(r: Refusal) -> u64
     ensures { result ≡ refusal_reply r }
 {
-    in_one(refusals::number(r), figure_of(r))
+    in_one(u32::from(r), figure_of(r))
+}
+
+// A result that a reply tells by a figure.
+pub trait Figured {
+    // What the figure is.
+    ghost told: { Self → ℕ };
+
+    // The figure: its lowest 56 bits are right.
+    fn figure(self) -> usize
+        ensures { result % figure_limit ≡ told self % figure_limit };
+}
+
+// A result that stands in a lent buffer: the figure is 0.
+impl Figured for () {
+    ghost told = { λ _. 0 };
+
+    fn figure(self) -> usize {
+        0
+    }
+}
+
+// Yes or no: the figure is 1 or 0.
+impl Figured for bool {
+    ghost told = { λ yes. cond yes 1 0 };
+
+    fn figure(self) -> usize {
+        match self {
+            true => 1,
+            false => 0,
+        }
+    }
+}
+
+// A number is its own figure.
+impl Figured for u8 {
+    ghost told = { λ number. number };
+
+    fn figure(self) -> usize {
+        usize::from(self)
+    }
+}
+
+impl Figured for usize {
+    ghost told = { λ number. number };
+
+    fn figure(self) -> usize {
+        self
+    }
+}
+
+impl Figured for u64 {
+    ghost told = { λ number. number };
+
+    fn figure(self) -> usize {
+        self as usize
+    }
+}
+
+// The reply of a call with this answer: the figure of its result, or the refusal's number and figure.
+pub fn reply<T: Figured>(answer: Result<T, Refusal>) -> u64
+    ensures { result ≡ told_reply T.told answer }
+{
+    match answer {
+        Ok(found) => in_one(0, found.figure()),
+        Err(r) => refusal_reply(r),
+    }
 }
 
 // The reply of a call that, where it is accepted, has this number for a result.
-pub fn reply_with(x: usize, answer: Outcome) -> u64
-    ensures { result ≡ outcome_reply_with x answer }
-{
-    let Outcome::Refused(r) = answer else {
-        return in_one(0, x);
-    };
-    refusal_reply(r)
-}
-
-// The reply of a call whose result, if it has one, stands in a buffer.
-pub fn reply_of(answer: Outcome) -> u64
-    ensures { result ≡ outcome_reply answer }
-{
-    reply_with(0, answer)
-}
-
-// The reply of a call that says yes or no: the figure is 1 or 0.
-pub fn verdict_reply(answer: Verdict) -> u64
-    ensures { result ≡ told_verdict answer }
+pub fn reply_with(x: usize, answer: Result<(), Refusal>) -> u64
+    ensures { result ≡ told_reply (λ _. x) answer }
 {
     match answer {
-        Verdict::Yes => in_one(0, 1),
-        Verdict::No => in_one(0, 0),
-        Verdict::Refused(r) => refusal_reply(r),
+        Ok(()) => in_one(0, x),
+        Err(r) => refusal_reply(r),
     }
 }
 
 // The number of an answer: 0, or the refusal's.
-pub fn answer_number(answer: Outcome) -> u32
-    ensures { result ≡ outcome_number answer }
+pub fn answer_number<T: Drop>(answer: Result<T, Refusal>) -> u32
+    ensures { result ≡ told_number answer }
 {
-    let Outcome::Refused(r) = answer else {
-        return 0;
-    };
-    refusals::number(r)
+    match answer {
+        Ok(_) => 0,
+        Err(r) => u32::from(r),
+    }
 }

@@ -10,27 +10,32 @@ use native.Mathlib.Omega.{arith}
 use native.Mathlib.Decide.{ℕ_discrete}
 use borrow.Author.Tests.{ne_eqb}
 use lib.Dec.{eqb}
-use lib.ListN.{length, get_or, set, take, length-set, length-append}
-use lib.Seq.{get_or-set_same, get_or-set_other, length-take-le}
+use lib.ListN.{length, get_or, set, take, length-set}
+use lib.Seq.{get_or-set_same, get_or-set_other}
 use Rattle.limits.specs.Limits.{most_leaves, most_numbers, IsLeafCount}
 use Rattle.trees.specs.Trees.{Tree, node}
 use Rattle.trees.specs.Listings.{KeepsRules, subtree_at, tree_of}
 use Rattle.trees.specs.Rerooting.{rerooted}
 use Rattle.trees.proofs.AddedRows.{row_stored}
-use Rattle.rerooted_rows.specs.declared.Joined.{Joined}
-use Rattle.rerooted_rows.specs.inner.Joining.{joined_number, joined_chain, joined_rows, joined_count, chain_rows}
+use Rattle.rerooted_rows.specs.declared.Rerooting.{Rerooting}
+use Rattle.rerooted_rows.specs.inner.Joining.{joined_number, joined_chain, joined_rows, joined_count}
 use Rattle.rerooted_rows.specs.inner.Joining.{Stands, Accounted}
 use Rattle.rerooted_rows.specs.inner.Arrays.{stored_rows, stored_chain, stored_length, JoinFits, Joins}
-use Rattle.rerooted_rows.specs.inner.Arrays.{backwards, with_chain, ChainFits}
+use Rattle.rerooted_rows.specs.inner.Arrays.{backwards, rows_made, chain_kept, with_chain, ChainFits}
 use Rattle.rerooted_rows.proofs.Joining.{row_fits}
 use Rattle.rerooted_rows.proofs.Finishing.{chain_short, chain_split, rerooted_listing}
 
 -- The ways out of `join`.
-module _ (n a b m chained : ℕ) (rows chain : List ℕ) where
-  pub join_first :
-      a ≡ 0
-      → Joins n a b m chained rows chain rows (set chain chained b)
-      (record { number = 0; rows = m; chained = chained + 1 })
+module _ (n a b : ℕ) (R : Rerooting) where
+  abbrev pub beside : ℕ → Rerooting
+  beside other = record {
+    rows = R.rows;
+    made = R.made;
+    chain = set R.chain R.chained other;
+    chained = R.chained + 1;
+  }
+
+  pub join_first : a ≡ 0 → Joins n a b R (beside b) 0
   unfolding joined_number joined_count stored_length stored_rows stored_chain
   join_first e = rw e (record {
     number_is = refl;
@@ -40,10 +45,7 @@ module _ (n a b m chained : ℕ) (rows chain : List ℕ) where
     chain_are = refl;
   })
 
-  pub join_second :
-      a ≢ 0 → b ≡ 0
-      → Joins n a b m chained rows chain rows (set chain chained a)
-      (record { number = 0; rows = m; chained = chained + 1 })
+  pub join_second : a ≢ 0 → b ≡ 0 → Joins n a b R (beside a) 0
   unfolding joined_number joined_count stored_length stored_rows stored_chain
   join_second d e = record {
     number_is = rw (ne_eqb a 0 d, e);
@@ -55,8 +57,12 @@ module _ (n a b m chained : ℕ) (rows chain : List ℕ) where
 
   pub join_row :
       a ≢ 0 → b ≢ 0
-      → Joins n a b m chained rows chain (set (set rows (2 * m) a) (2 * m + 1) b) chain
-      (record { number = n + m; rows = m + 1; chained = chained })
+      → Joins n a b R (record {
+        rows = set (set R.rows (2 * R.made) a) (2 * R.made + 1) b;
+        made = R.made + 1;
+        chain = R.chain;
+        chained = R.chained;
+      }) (n + R.made)
   unfolding joined_number joined_count stored_length stored_rows stored_chain
   join_row d e = record {
     number_is = rw (ne_eqb a 0 d, ne_eqb b 0 e);
@@ -128,68 +134,42 @@ chain_length a b chained chain = stored (eqb a 0) (eqb b 0)
     stored false false = refl
 
 -- Two subtrees joined in the arrays.
-module _ {n a b m chained : ℕ} {rows chain rows' chain' : List ℕ} {r : Joined}
-    (F : JoinFits n a b m chained rows chain) (J : Joins n a b m chained rows chain rows' chain' r) where
-  pub joins_rows : take (2 * r.rows) rows' ≡ joined_rows a b (take (2 * m) rows)
+module _ {n a b number : ℕ} {R R' : Rerooting} (F : JoinFits n a b R) (J : Joins n a b R R' number) where
+  pub joins_rows : rows_made R' ≡ joined_rows a b (rows_made R)
   joins_rows =
-      rw (J.count_is, J.rows_are) (rows_joined a b m rows (λ da db. omega (arith, F.row_room da db, F.rows_long)))
+      rw (J.count_is, J.rows_are)
+      (rows_joined a b R.made R.rows (λ da db. omega (arith, F.row_room da db, F.rows_long)))
 
-  pub joins_chain : backwards r.chained chain' ≡ joined_chain a b (backwards chained chain)
+  pub joins_chain : chain_kept R' ≡ joined_chain a b (chain_kept R)
   joins_chain =
-      rw (J.length_is, J.chain_are) (chain_joined a b chained chain (omega (arith, F.chain_room, F.chain_long)))
+      rw (J.length_is, J.chain_are) (chain_joined a b R.chained R.chain (omega (arith, F.chain_room, F.chain_long)))
 
-  pub joins_rows_long : length rows' ≡ most_numbers
-  joins_rows_long = rw J.rows_are (rows_length a b m rows ∙ F.rows_long)
+  pub joins_rows_long : length R'.rows ≡ most_numbers
+  joins_rows_long = rw J.rows_are (rows_length a b R.made R.rows ∙ F.rows_long)
 
-  pub joins_chain_long : length chain' ≡ most_leaves
-  joins_chain_long = rw J.chain_are (chain_length a b chained chain ∙ F.chain_long)
-
-chain_rows_length : (r above : ℕ) (l : List ℕ) → length (chain_rows r above l) ≡ 2 * length l
-unfolding chain_rows
-chain_rows_length r above [] = refl
-chain_rows_length r above (c ∷ l) = omega (arith, chain_rows_length (suc r) r l)
+  pub joins_chain_long : length R'.chain ≡ most_leaves
+  joins_chain_long = rw J.chain_are (chain_length a b R.chained R.chain ∙ F.chain_long)
 
 backwards_length : (k : ℕ) (cells : List ℕ) → length (backwards k cells) ≡ k
 unfolding backwards
 backwards_length zero cells = refl
 backwards_length (suc k) cells = ap suc (backwards_length k cells)
 
-with_chain_length :
-    (n m chained : ℕ) (chain rows : List ℕ) → ChainFits n m chained chain rows
-    → length (with_chain n m chained chain rows) ≡ 2 * (m + (chained - 1))
-unfolding with_chain
-with_chain_length n m chained chain rows F =
-    let rest = backwards (chained - 1) chain in
-    let own = chain_rows_length (n + m) (get_or chain (chained - 1) 0) rest in
-    rw (length-append, length-take-le (2 * m) rows (omega (arith, F.room, F.rows_long)))
-    (omega (arith, own, backwards_length (chained - 1) chain))
-
--- where this is a listing, it has n − 2 rows
-pub chain_front :
-    {n m chained : ℕ} {chain rows : List ℕ} (rows' : List ℕ) → ChainFits n m chained chain rows
-    → KeepsRules n (with_chain n m chained chain rows)
-    → take (2 * (m + (chained - 1))) rows' ≡ with_chain n m chained chain rows
-    → take (2 * (n - 2)) rows' ≡ with_chain n m chained chain rows
-chain_front {n} {m} {chained} {chain} {rows} rows' F keeps e =
-    let long = with_chain_length n m chained chain rows F in
-    let all : 2 * (n - 2) ≡ 2 * (m + (chained - 1)) = omega (arith, keeps.numbers, long) in
-    rw all e
-
 -- The arrays hold what is accounted for.
-module _ (n m chained : ℕ) (rows chain : List ℕ) (seen : ℕ → Bool) (count : IsLeafCount n)
-    (rows_long : length rows ≡ most_numbers) (chain_long : length chain ≡ most_leaves) where
+module _ (n : ℕ) (R : Rerooting) (seen : ℕ → Bool) (count : IsLeafCount n)
+    (rows_long : length R.rows ≡ most_numbers) (chain_long : length R.chain ≡ most_leaves) where
   z : 0 < n
   z = omega (arith, count.0)
 
   chain_low :
-      (others : List ℕ) → Accounted n m (take (2 * m) rows) (backwards chained chain) others seen
-      → chained + m + 1 ≤ n
-  chain_low others W = omega (arith, chain_short z W, backwards_length chained chain)
+      (others : List ℕ) → Accounted n R.made (rows_made R) (chain_kept R) others seen
+      → R.chained + R.made + 1 ≤ n
+  chain_low others W = omega (arith, chain_short z W, backwards_length R.chained R.chain)
 
   -- so there is room to join two subtrees
   pub join_fits :
-      (a b : ℕ) (rest : List ℕ) → Accounted n m (take (2 * m) rows) (backwards chained chain) (b ∷ a ∷ rest) seen
-      → JoinFits n a b m chained rows chain
+      (a b : ℕ) (rest : List ℕ) → Accounted n R.made (rows_made R) (chain_kept R) (b ∷ a ∷ rest) seen
+      → JoinFits n a b R
   join_fits a b rest W =
       let short = chain_low (b ∷ a ∷ rest) W in
       record {
@@ -203,17 +183,17 @@ module _ (n m chained : ℕ) (rows chain : List ℕ) (seen : ℕ → Bool) (coun
 
   -- and when all is joined, to write the rows of the chain: the listing is that of the rerooted tree
   module _ (all : (k : ℕ) → k < n → seen k ≡ true)
-      (W : Accounted n m (take (2 * m) rows) (backwards chained chain) (0 ∷ []) seen) (A B : Tree)
-      (st : Stands (subtree_at n (take (2 * m) rows)) (backwards chained chain) 0 (node A B)) where
-    some_chained : 0 < chained
+      (W : Accounted n R.made (rows_made R) (chain_kept R) (0 ∷ []) seen) (A B : Tree)
+      (st : Stands (subtree_at n (rows_made R)) (chain_kept R) 0 (node A B)) where
+    some_chained : 0 < R.chained
     some_chained =
-        go chained (chain_split n count.0 seen all m (take (2 * m) rows) (backwards chained chain) W A B st)
+        go R.chained (chain_split n count.0 seen all R.made (rows_made R) (chain_kept R) W A B st)
       where
-        go : (k : ℕ) → (c : ℕ) × (older : List ℕ) × (backwards k chain ≡ c ∷ older) → 0 < k
+        go : (k : ℕ) → (c : ℕ) × (older : List ℕ) × (backwards k R.chain ≡ c ∷ older) → 0 < k
         go zero s = absurd (unfold backwards in omega (arith, ap length s.2))
         go (suc k) s = omega arith
 
-    pub chain_fits : ChainFits n m chained chain rows
+    pub chain_fits : ChainFits n R
     chain_fits =
         let short = chain_low (0 ∷ []) W in
         record {
@@ -226,13 +206,13 @@ module _ (n m chained : ℕ) (rows chain : List ℕ) (seen : ℕ → Bool) (coun
         }
 
     pub chain_listing :
-        KeepsRules n (with_chain n m chained chain rows)
-        × (tree_of n (with_chain n m chained chain rows) ≡ rerooted (node A B))
+        KeepsRules n (with_chain n R)
+        × (tree_of n (with_chain n R) ≡ rerooted (node A B))
     unfolding with_chain
     chain_listing =
-        rerooted_listing n count.0 seen all m (take (2 * m) rows) (backwards chained chain) W A B st
-        (get_or chain (chained - 1) 0) (backwards (chained - 1) chain) (latest chained some_chained)
+        rerooted_listing n count.0 seen all R.made (rows_made R) (chain_kept R) W A B st
+        (get_or R.chain (R.chained - 1) 0) (backwards (R.chained - 1) R.chain) (latest R.chained some_chained)
       where
-        latest : (k : ℕ) → 0 < k → backwards k chain ≡ get_or chain (k - 1) 0 ∷ backwards (k - 1) chain
+        latest : (k : ℕ) → 0 < k → backwards k R.chain ≡ get_or R.chain (k - 1) 0 ∷ backwards (k - 1) R.chain
         latest zero h = absurd (omega arith)
         latest (suc k) h = let e : suc k - 1 ≡ k = omega arith in rw e (unfold backwards in refl)

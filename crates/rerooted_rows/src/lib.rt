@@ -2,81 +2,69 @@
 // top waits in a chain, of which the last rows are made.
 #![tactic(auto)]
 
-ghost use Rattle.std.specs.Prelude.{◌≡◌, ◌+◌, ◌-◌, ◌*◌, length, take};
-ghost use Rattle.limits.specs.Limits.{most_numbers};
-ghost use Rattle.rerooted_rows.specs.inner.Arrays.{JoinFits, Joins, with_chain, ChainFits};
+ghost use Rattle.std.specs.Prelude.{◌≡◌};
+ghost use Rattle.rerooted_rows.specs.inner.Arrays.{none_joined, JoinFits, Joins, with_chain, ChainFits};
 
 use limits::{MOST_LEAVES, MOST_NUMBERS};
 
-// Two subtrees joined: their number, and how many rows and numbers in the chain there are then.
+// The rows so far, and the chain; how many rows and numbers these are.
 #[derive(Clone, Copy)]
-pub struct Joined {
-    pub number: u16,
-    pub rows: usize,
+pub struct Rerooting {
+    pub rows: [u16; MOST_NUMBERS],
+    pub made: usize,
+    pub chain: [u16; MOST_LEAVES],
     pub chained: usize,
 }
 
-// Joins the subtrees a and b: by a row; but one beside leaf 0's goes to the chain, and the number stays 0. For the
-// crates above.
-pub fn join(
-    n: usize,
-    a: u16,
-    b: u16,
-    made: usize,
-    chained: usize,
-    rows: &mut [u16; MOST_NUMBERS],
-    chain: &mut [u16; MOST_LEAVES],
-) -> Joined
-    requires { JoinFits n a b made chained rows.old chain.old }
-    ensures { Joins n a b made chained rows.old chain.old rows.new
-        chain.new result }
-{
-    if a == 0 {
-        chain[chained] = b;
-        return Joined {
-            number: 0,
-            rows: made,
-            chained: chained + 1,
-        };
+impl Rerooting {
+    // Nothing is joined. For the crates above.
+    pub fn new() -> Self
+        ensures { result ≡ none_joined }
+    {
+        Rerooting {
+            rows: [0; MOST_NUMBERS],
+            made: 0,
+            chain: [0; MOST_LEAVES],
+            chained: 0,
+        }
     }
-    if b == 0 {
-        chain[chained] = a;
-        return Joined {
-            number: 0,
-            rows: made,
-            chained: chained + 1,
-        };
-    }
-    rows[2 * made] = a;
-    rows[2 * made + 1] = b;
-    Joined {
-        number: (n + made) as u16,
-        rows: made + 1,
-        chained,
-    }
-}
 
-// Writes the rows that the chain makes behind the others. For the crates above.
-pub fn write_chain(
-    n: usize,
-    made: usize,
-    chained: usize,
-    chain: &[u16; MOST_LEAVES],
-    rows: &mut [u16; MOST_NUMBERS],
-)
-    requires { ChainFits n made chained chain.now rows.old }
-    ensures { (take (2 * (made + (chained - 1))) rows.new
-        ≡ with_chain n made chained chain.now rows.old)
-        × (length rows.new ≡ most_numbers) }
-{
-    let mut k: usize = chained - 1;
-    let mut above = chain[k];
-    let mut r: usize = made;
-    while 0 < k {
-        k -= 1;
-        rows[2 * r] = above;
-        rows[2 * r + 1] = chain[k];
-        above = (n + r) as u16;
-        r += 1;
+    // Joins the subtrees a and b: by a row; but one beside leaf 0's goes to the chain. The number of what they make: 0
+    // where it has leaf 0. For the crates above.
+    pub fn join(&mut self, n: usize, a: u16, b: u16) -> u16
+        requires { JoinFits n a b self.old }
+        ensures { Joins n a b self.old self.new result }
+    {
+        let made = self.made;
+        let chained = self.chained;
+        match (a, b) {
+            (0, other) | (other, 0) => {
+                self.chain[chained] = other;
+                self.chained = chained + 1;
+                0
+            }
+            _ => {
+                self.rows[2 * made] = a;
+                self.rows[2 * made + 1] = b;
+                self.made = made + 1;
+                (n + made) as u16
+            }
+        }
+    }
+
+    // Writes the rows that the chain makes behind the others: then all of them are a listing. For the crates above.
+    pub fn finish(&mut self, n: usize) -> &[u16]
+        requires { ChainFits n self.old }
+        ensures { result.now ≡ with_chain n self.old }
+    {
+        let last = self.chained - 1;
+        let end = self.made + last;
+        let mut above = self.chain[last];
+        for r in self.made..end {
+            self.rows[2 * r] = above;
+            self.rows[2 * r + 1] = self.chain[end - r - 1];
+            above = (n + r) as u16;
+        }
+        &self.rows[..2 * end]
     }
 }

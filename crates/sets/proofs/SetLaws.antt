@@ -8,6 +8,7 @@ use borrow.Author.Tests.{eq-eqb, eqb-true}
 use lib.Bits.{bit_and, bit_or}
 use lib.Dec.{eqb}
 use lib.ListN.{get_or}
+use lib.Pointwise.{pointwise, bytes_decides}
 use lib.Seq.{ext_get_or}
 use Rattle.base.specs.Numbers.{all_below}
 use Rattle.base.specs.Lists.{tab}
@@ -76,6 +77,21 @@ module _
       (λ h. true_all many _ (λ i l. eq-eqb _ _ (same_cells width many a b ha hb (agree h) i l)))
       (λ h. true_all (8 * set_bytes) _ (λ k l. alike_same _ _ (rw (same_lists h))))
 
+  -- and they are so exactly when the cells are one list
+  pub same_exactly :
+      (same_set (in_cells width a) (in_cells width b) ≡ true → a ≡ b)
+      × (a ≡ b → same_set (in_cells width a) (in_cells width b) ≡ true)
+  same_exactly = (
+    λ h. same_lists (sym same_by_cells ∙ h),
+    λ e. same_by_cells ∙ true_all many _ (λ i l. eq-eqb (get_or a i 0) (get_or b i 0) (rw e)),
+  )
+
+  -- as code tells of two lists whether they are equal
+  pub same_pointwise : pointwise eqb a b ≡ same_set (in_cells width a) (in_cells width b)
+  same_pointwise =
+      let decides = bytes_decides a b in
+      bool_iff _ _ (λ h. same_exactly.1 (decides.0 h)) (λ h. decides.1 (same_exactly.0 h))
+
 -- what is made of sets as their bytes hold them
 pub combined_held :
     (what : Combination) (e f : LeafSet)
@@ -109,7 +125,4 @@ module _ (a b : List ℕ) (ha : AreCells 8 set_bytes a) (hb : AreCells 8 set_byt
 
   -- lent sets are equal exactly when their bytes are
   pub equal_exactly : (same_set (set_of a) (set_of b) ≡ true → a ≡ b) × (a ≡ b → same_set (set_of a) (set_of b) ≡ true)
-  equal_exactly = (
-    λ h. same_lists 8 set_bytes refl a b ha hb (sym equal_by_bytes ∙ h),
-    λ e. equal_by_bytes ∙ true_all set_bytes _ (λ i l. eq-eqb (get_or a i 0) (get_or b i 0) (rw e)),
-  )
+  equal_exactly = same_exactly 8 set_bytes refl a b ha hb

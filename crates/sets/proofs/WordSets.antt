@@ -1,33 +1,40 @@
 -- Leaf sets by the word: a word is eight bytes, and a byte an eighth of a word; so bytes become words and words bytes
 -- without a bit lost.
-use mathlib.Core.Path.{◌≡◌, sym, ◌∙◌}
+use mathlib.Core.Path.{◌≡◌, refl, sym, ◌∙◌}
 use mathlib.Core.Logic.{◌≢◌}
 use mathlib.Core.Bool.{Bool}
 use mathlib.Core.List.{List}
-use Prim.Native.Nat.{ℕ, ◌+◌, ◌*◌, ◌/◌, ◌%◌, ◌^◌, ◌<◌}
-use native.Mathlib.Nat.{one-mul}
+use Prim.Native.Nat.{ℕ, zero, suc, ◌+◌, ◌*◌, ◌/◌, ◌%◌, ◌^◌, ◌<◌}
+use native.Mathlib.Nat.{one-mul, pow-suc}
 use native.Mathlib.Omega.{arith}
 use borrow.Author.Rules.{elem_Fits}
 use borrow.Author.Tests.{eq-eqb, ne_eqb}
 use denote.Array.{Array}
 use denote.Laws.{Is}
 use denote.Plain.{UInt}
-use lib.Bits.{bit_or, or_shifted_r}
 use lib.Dec.{T, leb, eqb}
 use lib.ListN.{get_or}
-use lib.Pow.{shl_exact}
+use lib.Pow.{shl_exact, pow-add}
 use mir.Syntax.{Width}
 use mir.Val.{Val, bits}
+use Rattle.std.specs.Int.{sum_through, byte_worth}
 use Rattle.base.specs.Numbers.{indicator, sum_below}
 use Rattle.base.specs.Bits.{bit, from_bits, AreCells}
-use Rattle.base.proofs.Bits.{from_same, from_parts, from_lt, from_bit, from_lowest, bit_down, in_cell}
+use Rattle.base.proofs.Bits.{from_same, from_parts, from_bit, from_lowest, bit_down, in_cell}
 use Rattle.base.proofs.Sums.{zero_sum, sum_only}
 use Rattle.limits.specs.Limits.{set_bytes}
 use Rattle.trees.specs.Trees.{leaf, leaves}
 use Rattle.trees.specs.Splits.{set_of}
 use Rattle.sets.specs.Words.{set_of_words}
 
--- byte 8i + j, put above the j bytes before it of word i
+-- how much byte k of a number is worth
+byte_power : (k : ℕ) → 256 ^ k ≡ 2 ^ (8 * k)
+byte_power zero = refl
+byte_power (suc k) =
+    let next : 8 * suc k ≡ 8 * k + 8 = omega arith in
+    rw (pow-suc 256 k, byte_power k, next, pow-add 2 (8 * k) 8)
+
+-- the bytes of word i
 module _ (s : List ℕ) (b : AreCells 8 set_bytes s) (i : ℕ) where
   byte_is : (j : ℕ) → from_bits 8 (λ t. set_of s (64 * i + (8 * j + t))) ≡ get_or s (8 * i + j) 0
   byte_is j = from_same 8 _ (bit (get_or s (8 * i + j) 0)) at ∙ from_bit 8 _ (b.1 (8 * i + j))
@@ -37,23 +44,25 @@ module _ (s : List ℕ) (b : AreCells 8 set_bytes s) (i : ℕ) where
           let place : 64 * i + (8 * j + t) ≡ 8 * (8 * i + j) + t = omega arith in
           rw place (in_cell 8 s (8 * i + j) t l)
 
-  pub byte_above :
-      (j word : ℕ) → j < 8 → word ≡ from_bits (8 * j) (λ t. set_of s (64 * i + t))
-      → bit_or word (get_or s (8 * i + j) 0 * 2 ^ (8 * j) % 2 ^ 64)
-      ≡ from_bits (8 * (j + 1)) (λ t. set_of s (64 * i + t))
-  byte_above j word l e =
+  -- the eight bytes of word i, each worth 256 times the one before it
+  pub word_is :
+      (bytes : List ℕ) → ((k : ℕ) → k < 8 → get_or bytes k 0 ≡ get_or s (8 * i + k) 0) → (j : ℕ) → j < 8
+      → sum_through (λ k. byte_worth k (get_or bytes k 0)) j ≡ from_bits (8 * suc j) (λ t. set_of s (64 * i + t))
+  word_is bytes h zero l =
+      h 0 l
+      ∙ sym (byte_is 0)
+      ∙ from_same 8 _ _ (λ t m. let e : 64 * i + (8 * 0 + t) ≡ 64 * i + t = omega arith in rw e)
+  word_is bytes h (suc j) l =
       let f : ℕ → Bool = λ t. set_of s (64 * i + t) in
-      let x = get_or s (8 * i + j) 0 in
-      let next : 8 * (j + 1) ≡ 8 * j + 8 = omega arith in
+      let next : 8 * suc (suc j) ≡ 8 * suc j + 8 = omega arith in
       rw (
-        shl_exact {a = x} 8 (8 * j) 64 (b.1 (8 * i + j)) (omega arith),
-        e,
-        or_shifted_r x (8 * j) (from_bits (8 * j) f) (from_lt (8 * j) f),
         next,
-        from_parts (8 * j) 8 f,
-        byte_is j,
+        from_parts (8 * suc j) 8 f,
+        byte_is (suc j),
+        word_is bytes h j (omega arith),
+        h (suc j) l,
+        byte_power (suc j),
       )
-      (omega arith)
 
 -- byte i of words
 pub byte_below :

@@ -44,9 +44,5 @@ pub fn put_set(out: &mut [u8], at: usize, s: [u8; SET_BYTES])
     requires { at + set_bytes ≤ length out.old }
     ensures { out.new ≡ take at out.old ++ s ++ drop (at + set_bytes) out.old }
 {
-    let mut i = 0;
-    while i < SET_BYTES {
-        out[at + i] = s[i];
-        i += 1;
-    }
+    out[at..at + SET_BYTES].copy_from_slice(&s);
 }

@@ -2,23 +2,24 @@
 #![tactic(auto)]
 
 use case_lines::{say, say_number};
-use refusals::Outcome;
+use refusals::Refusal;
 use std::io;
 
 // The name of a leaf, or why there is none.
-fn say_name(rt: &impl Print, name: &[u8], answer: Outcome) -> io::Result<()> {
-    let Outcome::Done = answer else {
-        return say(rt, b"", answer);
-    };
-    rt.write_all(name)?;
-    println!(rt)
+fn say_name(rt: &impl Print, answer: Result<&[u8], Refusal>) -> io::Result<()> {
+    match answer {
+        Ok(name) => {
+            rt.write_all(name)?;
+            println!(rt)
+        }
+        Err(cause) => say(rt, b"", Err(cause)),
+    }
 }
 
 // Reads a sheet, and shows the name of a leaf as the bytes of the sheet themselves.
 fn show_name(rt: &impl Print, bytes: &[u8], leaf: usize) -> io::Result<()> {
     let reading = sheets::read_sheet(bytes);
-    let named = sheet_names::name(reading.sheet, leaf);
-    say_name(rt, named.bytes, named.outcome)
+    say_name(rt, sheet_names::name(reading.sheet, leaf))
 }
 
 fn say_cell(rt: &impl Print, what: &[u8], cell: u32) -> io::Result<()> {

@@ -1,6 +1,6 @@
 -- A strain's name: the answer where it is asked for, its bytes, and its place in the sheet.
-use Rattle.std.specs.Prelude.{List, [], ◌∷◌, ℕ, ◌+◌, length}
-use Rattle.refusals.specs.declared.Outcome.TheVariants.{Done, Refused}
+use Rattle.std.specs.Prelude.{List, [], ◌∷◌, ℕ, ◌+◌, length, Result, Ok, Err}
+use Rattle.refusals.specs.declared.Refusal.{Refusal}
 use Rattle.refusals.specs.Refusals.{Answer, accepted, refused, judged, answered}
 use Rattle.checks.specs.Questions.{question_refusal}
 use Rattle.sheet_rules.specs.Sheets.{leaves_of, offset_of, name_start, name}
@@ -12,16 +12,11 @@ unfoldable pub name_answer : (S : List ℕ) (n o leaf : ℕ) → Answer (List �
 name_answer S n o leaf =
     answered (judged (kept_sheet_refusal S n o 0 0 ∷ question_refusal n (leaf ∷ []) ∷ [])) (name S leaf)
 
--- what is shown of it: no bytes where it is refused
-unfoldable pub shown : Answer (List ℕ) → List ℕ
-shown (accepted x) = x
-shown (refused r) = []
-
--- where it stands: its first byte at p, and how many bytes it has; 0 and 0 where it is refused
-unfoldable pub placed : ℕ → Answer (List ℕ) → NamePlace
-placed p (accepted x) = record { first = p; many = length x; outcome = Done }
-placed p (refused r) = record { first = 0; many = 0; outcome = Refused r }
+-- where it stands: its first byte at p, and how many bytes it has
+unfoldable pub placed : ℕ → Answer (List ℕ) → Result NamePlace Refusal
+placed p (accepted x) = Ok (record { first = p; many = length x })
+placed p (refused r) = Err r
 
 -- where the name of a leaf stands, after its length byte, of a sheet with the trailer's figures
-unfoldable pub name_place_answer : (S : List ℕ) (leaf : ℕ) → NamePlace
+unfoldable pub name_place_answer : (S : List ℕ) (leaf : ℕ) → Result NamePlace Refusal
 name_place_answer S leaf = placed (name_start S leaf + 1) (name_answer S (leaves_of S) (offset_of S) leaf)

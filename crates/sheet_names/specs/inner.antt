@@ -1,2 +1,2 @@
-pub mod Shown
-pub mod Replies
+pub mod Asked
+pub mod Figures

@@ -1,4 +1,4 @@
--- The table that is written where nothing is refused, n being the trailer's leaf count and c the sheet's cells.
+-- The table that is written, c being the sheet's cells.
 use mathlib.Core.Path.{◌≡◌}
 use mathlib.Core.List.{List, ◌++◌}
 use Prim.Native.Nat.{ℕ, ◌*◌}
@@ -10,7 +10,8 @@ use Rattle.sheet_rules.specs.Sheets.{leaves_of, cells_of}
 use Rattle.sheet_tables.specs.inner.Rows.{table_rule}
 
 pub table_written :
-    (S out : List ℕ) {n : ℕ} {c : List ℕ} → n ≡ leaves_of S → c ≡ cells_of S
-    → (let t = table_with (leaves_of S) (cells_of S) in filled (n * n) (table_rule n c) out ≡ t ++ drop (length t) out)
+    (S out : List ℕ) {c : List ℕ} → c ≡ cells_of S
+    → (let n = leaves_of S in
+    let t = table_with n (cells_of S) in filled (n * n) (table_rule n c) out ≡ t ++ drop (length t) out)
 unfolding table_with filled
-table_written S out e f = rw (e, f, length_tab (leaves_of S * leaves_of S))
+table_written S out f = rw (f, length_tab (leaves_of S * leaves_of S))

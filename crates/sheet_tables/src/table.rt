@@ -19,9 +19,7 @@ pub(crate) fn write_table(n: usize, packed: &[u8], out: &mut [u32])
     ensures { out.new
         ≡ filled (n * n) (table_rule n (packed_cells n packed.now)) out.old }
 {
-    let mut i: usize = 0;
-    while i < n {
+    for i in 0..n {
         write_row(n, packed, i, out);
-        i += 1;
     }
 }

@@ -1,17 +1,17 @@
 -- A listing in bytes, as code makes it of the listing in numbers: the same answer, and the bytes that are written.
+use Rattle.std.specs.Prelude.{Ok, Err}
 use mathlib.Core.Path.{◌≡◌, refl, ap, sym, ◌∙◌}
-use mathlib.Core.List.{List, ◌++◌, flat_map}
+use mathlib.Core.List.{List, flat_map}
 use mathlib.Core.Option.{none}
 use Prim.Native.Nat.{ℕ, zero, suc, ◌-◌, ◌*◌, ◌/◌, ◌%◌, ◌≤◌}
 use native.Mathlib.Omega.{arith}
-use lib.ListN.{length, get_or, take, drop, length-append}
-use lib.Seq.{take-suc, append_snoc, take-append_seam}
+use lib.ListN.{length, get_or, take, drop}
+use lib.Seq.{take-suc, append_snoc, take-append_seam, take_all}
 use Rattle.base.specs.Lists.{tab, filled}
 use Rattle.base.proofs.Lists.{length_flat, flat_more}
 use Rattle.limits.specs.declared.Kind.TheVariants.{Counts}
 use Rattle.limits.specs.Limits.{most_numbers}
 use Rattle.refusals.specs.declared.Refusal.{Refusal}
-use Rattle.refusals.specs.declared.Outcome.TheVariants.{Done, Refused}
 use Rattle.refusals.specs.Refusals.{Answer, accepted, refused, outcome, written}
 use Rattle.refusals.proofs.Answers.{unless_passed}
 use Rattle.rebuild_answers.proofs.Promises.{rebuilt_is_standard}
@@ -21,18 +21,22 @@ use Rattle.sheet_rules.specs.Operations.{sheet_refusal}
 use Rattle.byte_numbers.proofs.Bytes.{length_low}
 use Rattle.packed_tables.specs.Packed.{table_with}
 use Rattle.sheet_trees.specs.Operations.{sheet_tree, in_bytes, sheet_bytes_answer}
-use Rattle.sheet_trees.specs.inner.Bytes.{byte_rule}
-use Rattle.sheet_trees.proofs.SheetTree.{accepted_here, other_room, rebuilt_alone}
+use Rattle.sheets.proofs.Judged.{accepted_here, other_room}
+use Rattle.sheet_trees.proofs.SheetTree.{rebuilt_alone}
+
+-- byte k of numbers in two bytes each
+unfoldable pub byte_rule : List ℕ → ℕ → ℕ
+byte_rule l k = get_or (low_first 2 (get_or l (k / 2) 0)) (k % 2) 0
 
 -- the two bytes of number m, and the bytes of the first m numbers, one by one
-low_byte : (l : List ℕ) (m : ℕ) → byte_rule l (2 * m) ≡ get_or l m 0 % 256
+pub low_byte : (l : List ℕ) (m : ℕ) → byte_rule l (2 * m) ≡ get_or l m 0 % 256
 unfolding byte_rule low_first
 low_byte l m =
     let a : 2 * m / 2 ≡ m = omega arith in
     let b : 2 * m % 2 ≡ 0 = omega arith in
     rw (a, b)
 
-high_byte : (l : List ℕ) (m : ℕ) → byte_rule l (suc (2 * m)) ≡ get_or l m 0 / 256 % 256
+pub high_byte : (l : List ℕ) (m : ℕ) → byte_rule l (suc (2 * m)) ≡ get_or l m 0 / 256 % 256
 unfolding byte_rule low_first
 high_byte l m =
     let a : suc (2 * m) / 2 ≡ m = omega arith in
@@ -62,34 +66,36 @@ same_outcome (accepted l) = refl
 same_outcome (refused r) = refl
 
 none_written :
-    (a : Answer (List ℕ)) (r : Refusal) (out : List ℕ) → outcome a ≡ Refused r → out ≡ written (in_bytes a) out
+    (a : Answer (List ℕ)) (r : Refusal) (out : List ℕ) → outcome a ≡ Err r → out ≡ written (in_bytes a) out
 unfolding outcome in_bytes written
 none_written (accepted l) r out h = absurd (let z : ◌≡◌ {A = ℕ} 0 1 = cc in omega arith)
 none_written (refused x) r out h = refl
 
-not_done : (r : Refusal) → outcome {A = List ℕ} (refused r) ≡ Done → ⊥
+not_done : (r : Refusal) → outcome {A = List ℕ} (refused r) ≡ Ok tt → ⊥
 unfolding outcome
 not_done r h = let z : ◌≡◌ {A = ℕ} 0 1 = cc in omega arith
 
--- it is accepted: the bytes of a listing that stands at the front of the cells
-front_bytes :
-    (l cells out : List ℕ)
-    → filled (2 * length l) (byte_rule (written (accepted l) cells)) out ≡ written (in_bytes (accepted l)) out
+-- the bytes of numbers at the front of a buffer
+pub all_bytes : (l out : List ℕ) → filled (2 * length l) (byte_rule l) out ≡ written (in_bytes (accepted l)) out
 unfolding filled written in_bytes
-front_bytes l cells out =
-    let rest = drop (length l) cells in
+all_bytes l out =
     rw (
-      first_bytes (l ++ rest) (length l) (rw (length-append l rest) (omega arith)),
-      take-append_seam l rest,
+      first_bytes l (length l) (omega arith),
+      take_all (length l) l (omega arith),
       length_flat 2 (low_first 2) (length_low 2) l,
     )
 
+listed : (l cells : List ℕ) → take (length l) (written (accepted l) cells) ≡ l
+unfolding written
+listed l cells = take-append_seam l (drop (length l) cells)
+
 -- A sheet that is accepted with its room for bytes. The numbers have room in most_numbers cells.
 module _ (S : List ℕ) (room : ℕ) (h : sheet_refusal S (4 * (leaves_of S - 2)) room ≡ none) where
-  pub fits : sheet_refusal S (2 * (leaves_of S - 2)) most_numbers ≡ none
-  fits =
-      let due = 4 * (leaves_of S - 2) in
-      other_room S due room h (2 * (leaves_of S - 2)) most_numbers (omega (arith, (accepted_here S due room h).count))
+  pub fits : 2 * (leaves_of S - 2) ≤ most_numbers
+  fits = omega (arith, (accepted_here S (4 * (leaves_of S - 2)) room h).count)
+
+  listing_fits : sheet_refusal S (2 * (leaves_of S - 2)) most_numbers ≡ none
+  listing_fits = other_room S (4 * (leaves_of S - 2)) room h (2 * (leaves_of S - 2)) most_numbers fits
 
   bytes_of_tree : sheet_bytes_answer S room ≡ in_bytes (sheet_tree S)
   unfolding sheet_bytes_answer
@@ -99,24 +105,24 @@ module _ (S : List ℕ) (room : ℕ) (h : sheet_refusal S (4 * (leaves_of S - 2)
   bytes_answer = rw bytes_of_tree (same_outcome (sheet_tree S))
 
   pub bytes_refused :
-      (r : Refusal) (out : List ℕ) → outcome (sheet_tree S) ≡ Refused r
+      (r : Refusal) (out : List ℕ) → outcome (sheet_tree S) ≡ Err r
       → out ≡ written (sheet_bytes_answer S room) out
   bytes_refused r out e = rw bytes_of_tree (none_written (sheet_tree S) r out e)
 
   pub bytes_written :
-      (cells out : List ℕ) → outcome (sheet_tree S) ≡ Done
-      → filled (4 * (leaves_of S - 2)) (byte_rule (written (sheet_tree S) cells)) out
+      (cells out : List ℕ) → outcome (sheet_tree S) ≡ Ok tt
+      → written (in_bytes (accepted (take (2 * (leaves_of S - 2)) (written (sheet_tree S) cells)))) out
       ≡ written (sheet_bytes_answer S room) out
   bytes_written cells out done = go (sheet_tree S) refl
     where
       go :
           (a : Answer (List ℕ)) → sheet_tree S ≡ a
-          → filled (4 * (leaves_of S - 2)) (byte_rule (written (sheet_tree S) cells)) out
+          → written (in_bytes (accepted (take (2 * (leaves_of S - 2)) (written (sheet_tree S) cells)))) out
           ≡ written (sheet_bytes_answer S room) out
       go (refused r) e = absurd (not_done r (sym (ap outcome e) ∙ done))
       go (accepted l) e =
           let n = leaves_of S in
           let t = table_with n (cells_of S) in
-          let kept = (rebuilt_is_standard Counts n t most_numbers l (rebuilt_alone S most_numbers fits ∙ e)).0 in
-          let many : 4 * (n - 2) ≡ 2 * length l = omega (arith, kept.numbers) in
-          rw (bytes_of_tree, e, many) (front_bytes l cells out)
+          let kept =
+          (rebuilt_is_standard Counts n t most_numbers l (rebuilt_alone S most_numbers listing_fits ∙ e)).0 in
+          rw (bytes_of_tree, e, ← kept.numbers, listed l cells)

@@ -29,7 +29,8 @@ use Rattle.packed_tables.specs.Packed.{table_with}
 use Rattle.packed_tables.proofs.PackedIsTable.{sheet_is_table}
 use Rattle.sheet_trees.specs.Operations.{sheet_tree, sheet_listing_answer, in_bytes, sheet_bytes_answer}
 use Rattle.sheet_trees.specs.Meanings.{SheetTreeMeans, InBytes, SheetBytesMean}
-use Rattle.sheet_trees.proofs.SheetTree.{accepted_here, other_room, rebuilt_alone}
+use Rattle.sheets.proofs.Judged.{accepted_here, other_room}
+use Rattle.sheet_trees.proofs.SheetTree.{rebuilt_alone}
 
 -- an answer in bytes is accepted, or refused, as the answer is
 in_bytes_accepted :

@@ -2,12 +2,12 @@
 -- leaves but one.
 use mathlib.Core.Path.{◌≡◌, refl, sym, ◌∙◌}
 use mathlib.Core.Bool.{true, false}
-use mathlib.Core.List.{List}
-use Prim.Native.Nat.{ℕ, ◌+◌, ◌-◌, ◌*◌, ◌<◌}
+use mathlib.Core.List.{List, ◌++◌}
+use Prim.Native.Nat.{ℕ, ◌-◌, ◌*◌, ◌<◌}
 use native.Mathlib.Omega.{arith}
 use native.Mathlib.Decide.{ℕ_discrete}
 use lib.ListN.{length, set, take, replicate, get_or-replicate}
-use lib.Seq.{get_or-set_same, get_or-set_other}
+use lib.Seq.{take-append_seam, get_or-set_same, get_or-set_other}
 use Rattle.limits.specs.Limits.{most_leaves, most_numbers, IsLeafCount}
 use Rattle.trees.specs.Trees.{Tree, leaf, node, LeafSet}
 use Rattle.trees.specs.Listings.{KeepsRules, tree_of}
@@ -19,56 +19,47 @@ use Rattle.spanned_trees.specs.Spans.{rank, spanned, all_but, pruned}
 use Rattle.spanned_trees.proofs.Ranks.{rank_same}
 use Rattle.spanned_trees.proofs.Spans.{rest_held, spanned_same}
 use Rattle.spanned_trees.proofs.Prunes.{but_stays, but_goes, rank_all_but}
-use Rattle.rerooted_rows.specs.declared.Joined.{Joined}
+use Rattle.rerooted_rows.specs.declared.Rerooting.{Rerooting}
 use Rattle.rerooted_rows.specs.inner.Arrays.{with_chain, ChainFits}
-use Rattle.rerooted_rows.proofs.Arrays.{chain_front, chain_fits, chain_listing}
+use Rattle.rerooted_rows.proofs.Arrays.{chain_fits, chain_listing}
 use Rattle.spanned_rows.specs.inner.Marks.{marked, Spanned}
 use Rattle.spanned_rows.specs.inner.Parts.{part, all_come, RowsJoined}
 
 -- What is joined has a node, so the chain makes its rows.
 chain_makes :
-    {m : ℕ} {rows chain : List ℕ} {r : Joined} → IsLeafCount m → (R : Tree) → IsHeld m R → RowsJoined m R rows chain r
-    → ChainFits m r.rows r.chained chain rows
-    × KeepsRules m (with_chain m r.rows r.chained chain rows)
-    × (tree_of m (with_chain m r.rows r.chained chain rows) ≡ rerooted R)
-chain_makes {m} c (leaf x) h J =
+    {m : ℕ} {J : Rerooting} → IsLeafCount m → (R : Tree) → IsHeld m R → RowsJoined m R J
+    → ChainFits m J × KeepsRules m (with_chain m J) × (tree_of m (with_chain m J) ≡ rerooted R)
+chain_makes {m} c (leaf x) h r =
     let w = held_on m (leaf x) h in
     let zero = leaf_eq 0 x (w.all 0 (omega (arith, c.0))) in
     let one = leaf_eq 1 x (w.all 1 (omega (arith, c.0))) in
     absurd (omega arith)
-chain_makes {m} {rows} {chain} {r} c (node A B) h J =
+chain_makes {m} {J} c (node A B) h r =
     let all : (k : ℕ) → k < m → all_come k ≡ true = λ k l. refl in
-    let listing = chain_listing m r.rows r.chained rows chain all_come c J.rows_long J.chain_long all
-    J.accounted A B J.stands in (
-      chain_fits m r.rows r.chained rows chain all_come c J.rows_long J.chain_long all J.accounted A B
-          J.stands,
-      listing.0,
-      listing.1,
-    )
+    let listing = chain_listing m J all_come c r.rows_long r.chain_long all r.accounted A B r.stands in
+    (chain_fits m J all_come c r.rows_long r.chain_long all r.accounted A B r.stands, listing.0, listing.1)
 
-module _ {n m : ℕ} {l rows chain : List ℕ} (v : LeafSet) {r : Joined} (count : IsLeafCount n) (keeps : KeepsRules n l)
-    (c : IsLeafCount m) (as_many : m ≡ rank v n)
-    (J : RowsJoined m (part v (node (leaf 0) (tree_of n l))) rows chain r) where
+module _ {n m : ℕ} {l : List ℕ} (v : LeafSet) {J : Rerooting} (count : IsLeafCount n) (keeps : KeepsRules n l)
+    (c : IsLeafCount m) (as_many : m ≡ rank v n) (r : RowsJoined m (part v (node (leaf 0) (tree_of n l))) J) where
   made :
-      ChainFits m r.rows r.chained chain rows
-      × KeepsRules m (with_chain m r.rows r.chained chain rows)
-      × (tree_of m (with_chain m r.rows r.chained chain rows) ≡ spanned v (tree_of n l))
+      ChainFits m J × KeepsRules m (with_chain m J) × (tree_of m (with_chain m J) ≡ spanned v (tree_of n l))
   unfolding spanned
   made =
       let held = rest_held n v (tree_of n l) (listing_tree n count l keeps) (omega (arith, c.0, as_many)) in
-      chain_makes c (part v (node (leaf 0) (tree_of n l))) (rw as_many held) J
+      chain_makes c (part v (node (leaf 0) (tree_of n l))) (rw as_many held) r
 
-  pub span_fits : ChainFits m r.rows r.chained chain rows
+  pub span_fits : ChainFits m J
   span_fits = made.0
 
+  pub span_long : length (with_chain m J) ≡ 2 * (m - 2)
+  span_long = made.1.numbers
+
   pub span_end :
-      {rows' : List ℕ}
-      → (take (2 * (r.rows + (r.chained - 1))) rows' ≡ with_chain m r.rows r.chained chain rows)
-      × (length rows' ≡ most_numbers)
-      → Spanned n l v m rows'
-  span_end {rows'} w =
-      let front = chain_front rows' span_fits made.1 w.0 in
-      record { count = as_many; long = w.1; keeps = rw front made.1; tree = rw front made.2 }
+      (rest rows : List ℕ) → rows ≡ with_chain m J ++ rest → length rows ≡ most_numbers → Spanned n l v m rows
+  span_end rest rows e long =
+      let front : take (2 * (m - 2)) rows ≡ with_chain m J =
+      rw (e, ← span_long) (take-append_seam (with_chain m J) rest) in
+      record { count = as_many; long = long; keeps = rw front made.1; tree = rw front made.2 }
 
 -- All leaves but x are marked.
 module _ {n x : ℕ} (count : IsLeafCount n) (lx : x < n) where

@@ -15,10 +15,8 @@ fn put_leaves(n: usize, under: &mut [[u8; SET_BYTES]; MOST_NODES])
     ensures { (length under.new ≡ most_nodes)
         × ((k : ℕ) → k < n → HoldsSet under.new k (leaf k)) }
 {
-    let mut k = 0;
-    while k < n {
+    for k in 0..n {
         under[k] = sets::single(k);
-        k += 1;
     }
 }
 
@@ -29,16 +27,10 @@ pub(crate) fn write_splits(n: usize, rows: &[u16], out: &mut [u8])
 {
     let mut under = [[0u8; SET_BYTES]; MOST_NODES];
     put_leaves(n, &mut under);
-    let mut k = 0;
-    while k < n - 3 {
+    for k in 0..n - 3 {
         let r = row_at(rows, k);
-        let i = r.first;
-        let j = r.second;
-        let a = under[i];
-        let b = under[j];
-        let s = sets::combine(Combination::Union, a, b);
-        under[n + k] = s;
-        sets::put_set(out, SET_BYTES * k, s);
-        k += 1;
+        let set = sets::combine(Combination::Union, under[r.first], under[r.second]);
+        under[n + k] = set;
+        sets::put_set(out, SET_BYTES * k, set);
     }
 }

@@ -15,8 +15,7 @@ ghost use Rattle.standard_listings.specs.inner.Standardising.{SubtreeFits, Subtr
 
 use limits::{MOST_NUMBERS, MOST_ROWS};
 use listings::{Row, row_at};
-use numbers::index_of_u16;
-use refusals::Outcome;
+use refusals::Refusal;
 
 // The least leaf under a number: a leaf is its own, and of a node the array has it.
 fn least_of(n: usize, leasts: &[u16; MOST_ROWS], x: usize) -> u16
@@ -59,15 +58,12 @@ pub fn order_rows(
         × (length sorted.old ≡ most_numbers) }
     ensures { InOrder n listing.now (2 * n - 2) sorted.new }
 {
-    let mut v: usize = n;
-    while v < 2 * n - 2 {
+    for v in n..2 * n - 2 {
         let c = in_order(n, listing, leasts, v);
-        let a = c.first;
         let k = 2 * (v - n);
-        leasts[v - n] = least_of(n, leasts, a);
-        sorted[k] = a as u16;
+        leasts[v - n] = least_of(n, leasts, c.first);
+        sorted[k] = c.first as u16;
         sorted[k + 1] = c.second as u16;
-        v += 1;
     }
 }
 
@@ -78,9 +74,10 @@ pub fn children(n: usize, sorted: &[u16; MOST_NUMBERS], v: usize) -> Row
     ensures second { result.second ≡ get_or sorted.now (2 * (v - n) + 1) 0 }
 {
     let k = 2 * (v - n);
-    let first = index_of_u16(sorted[k]);
-    let second = index_of_u16(sorted[k + 1]);
-    Row { first, second }
+    Row {
+        first: usize::from(sorted[k]),
+        second: usize::from(sorted[k + 1]),
+    }
 }
 
 // The number that a row gives to its child x, of whose rows s is the next.
@@ -150,15 +147,12 @@ pub fn standard_rows(n: usize, listing: &[u16], out: &mut [u16])
 }
 
 // Writes the standard listing of the tree that a listing stands for at the front of `out`.
-pub fn standardise(n: usize, listing: &[u16], out: &mut [u16]) -> Outcome
+pub fn standardise(n: usize, listing: &[u16], out: &mut [u16]) -> Result<(), Refusal>
     ensures answer { result ≡ outcome (standardise_answer n listing.now (length out.old)) }
     ensures buffer { out.new
         ≡ written (standardise_answer n listing.now (length out.old)) out.old }
 {
-    let judged = listings::judge_for_rows(n, listing, out.len());
-    let Outcome::Done = judged else {
-        return judged;
-    };
+    listings::judge_for_rows(n, listing, out.len())?;
     standard_rows(n, listing, out);
-    judged
+    Ok(())
 }

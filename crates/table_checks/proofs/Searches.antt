@@ -1,7 +1,7 @@
 -- The searches of the checks 4 and 5, step by step.
 use mathlib.Core.Path.{◌≡◌, refl, sym, ◌∙◌}
 use mathlib.Core.Logic.{◌≢◌}
-use mathlib.Core.Bool.{Bool, false, not, ◌&&◌}
+use mathlib.Core.Bool.{Bool, true, false, not, ◌&&◌}
 use mathlib.Core.List.{List}
 use mathlib.Core.Option.{Option, none, some}
 use Prim.Native.Nat.{ℕ, zero, suc, ◌+◌, ◌-◌, ◌*◌, ◌/◌, ◌%◌, ◌≤◌, ◌<◌}
@@ -11,11 +11,17 @@ use native.Mathlib.Omega.{arith}
 use borrow.Author.Tests.{eq-eqb, ne_eqb, lt-ltb, le-ltb}
 use lib.Dec.{ltb, eqb}
 use lib.ListN.{drop}
+use mir.Val.{bool_byte}
 use Rattle.base.specs.Lists.{tab, in_rows, find}
 use Rattle.base.proofs.Lists.{row_of, column_of, place}
 use Rattle.base.proofs.Searches.{find_here, find_on, find_end}
 use Rattle.trees.specs.Tables.{cell, first_filled, first_unequal}
 use Rattle.table_checks.specs.inner.Searches.{unequal_from, FourAgree}
+
+-- a test as a number
+pub byte_told : (b : Bool) {x : ℕ} → x ≡ bool_byte b → (x ≤ 1) × (x ≡ 1 → b ≡ true)
+byte_told true e = (omega (arith, e), λ h. refl)
+byte_told false e = (omega (arith, e), λ h. absurd (omega (arith, e, h)))
 
 -- The diagonal: the first leaf from i on whose cell is not 0.
 unfoldable pub filled_from : ℕ → List ℕ → ℕ → Option ℕ

@@ -8,25 +8,27 @@ use lib.ListN.{get_or}
 use Rattle.base.specs.Numbers.{sum_below, pair_sum, distance}
 use Rattle.base.proofs.Sums.{sum_ext, sum_more}
 use Rattle.trees.specs.Trees.{Tree}
+use Rattle.trees.specs.Listings.{tree_of}
 use Rattle.trees.specs.Quartets.{quartets}
 use Rattle.trees.specs.Tables.{cell, IsTable}
 use Rattle.trees.specs.Gaps.{gap_size, total_gap}
 use Rattle.trees.proofs.Quartets.{quartets_ij}
 use Rattle.trees.proofs.Tables.{halves_equal}
-use Rattle.leaf_orders.specs.inner.Orders.{whole, at}
-use Rattle.least_depths.specs.inner.Depths.{count_in}
+use Rattle.leaf_orders.specs.declared.LeafOrder.{LeafOrder}
+use Rattle.leaf_orders.specs.inner.LeafOrders.{at}
+use Rattle.least_depths.specs.inner.Rows.{count_of}
 use Rattle.total_gaps.specs.inner.Sizes.{SizesAdded}
 
 -- no size, and one more
-module _ {n i scale base : ℕ} {aboves tops cells : List ℕ} where
-  pub sizes_begun : SizesAdded n i scale base aboves tops cells 0 0
+module _ {scale : ℕ} {o : LeafOrder} {p : ℕ} {cells : List ℕ} where
+  pub sizes_begun : SizesAdded scale o p cells 0 0
   unfolding sum_below
   sizes_begun = record { sum = refl; small = omega arith }
 
   pub sizes_more :
-      {j r d : ℕ} → SizesAdded n i scale base aboves tops cells j r
-      → d ≡ distance (get_or cells (i * n + j) 0) (scale * count_in base aboves tops j) → d < 2 ^ 32
-      → SizesAdded n i scale base aboves tops cells (j + 1) (r + d)
+      {j r d : ℕ} → SizesAdded scale o p cells j r
+      → d ≡ distance (get_or cells (at o.leaves p * o.n + j) 0) (scale * count_of o p j) → d < 2 ^ 32
+      → SizesAdded scale o p cells (j + 1) (r + d)
   sizes_more {j = j} a e l = record {
     sum = rw (sum_more j) (omega (arith, a.sum, e));
     small = omega (arith, a.small);
@@ -47,26 +49,29 @@ module _ (n s : ℕ) (t : List ℕ) (T : Tree) where
   unfolding gap_size
   mirror_size is j k lj lk = rw (halves_equal is j k lj lk, quartets_ij n T j k)
 
-  -- one row more, and all
+  pub rows_all :
+      (leaves : List ℕ) (p : ℕ) → ((f : ℕ → ℕ) → sum_below n (λ q. f (at leaves q)) ≡ sum_below n f) → p ≡ n
+      → rows_gap leaves p ≡ total_gap n s t T
+  unfolding total_gap pair_sum
+  rows_all leaves p places e = rw e (places column_gap)
+
+-- one row more
+module _ (s : ℕ) (t : List ℕ) (o : LeafOrder) where
+  abbrev T : Tree
+  T = tree_of o.n o.listing.now
+
   pub rows_more :
-      (order : List ℕ) (p : ℕ) {base r : ℕ} {aboves tops : List ℕ} → IsTable n t → at order p < n
-      → ((k : ℕ) → k < n → base + at aboves k + at tops k ≡ quartets n T (at order p) k + whole)
-      → SizesAdded n (at order p) s base aboves tops t (at order p) r → rows_gap order p + r ≡ rows_gap order (p + 1)
-  rows_more order p {base} {r} {aboves} {tops} is l counts a =
-      rw (sum_more p) (omega (arith, a.sum ∙ sum_ext j _ _ same))
+      (p : ℕ) {r : ℕ} → IsTable o.n t → p < o.n → SizesAdded s o p t (at o.leaves p) r
+      → rows_gap o.n s t T o.leaves p + r ≡ rows_gap o.n s t T o.leaves (p + 1)
+  rows_more p {r} is lp a = rw (sum_more p) (omega (arith, a.sum ∙ sum_ext j _ _ same))
     where
       j : ℕ
-      j = at order p
+      j = at o.leaves p
+
+      lj : j < o.n
+      lj = o.ordered.leaf_below p lp
 
       same :
           (k : ℕ) → k < j
-          → distance (get_or t (j * n + k) 0) (s * count_in base aboves tops k) ≡ gap_size n s t T k j
-      same k m =
-          let count : count_in base aboves tops k ≡ quartets n T j k = omega (arith, counts k (omega arith)) in
-          rw count (unfold cell in mirror_size is j k l (omega arith))
-
-  pub rows_all :
-      (order : List ℕ) (p : ℕ) → ((f : ℕ → ℕ) → sum_below n (λ q. f (at order q)) ≡ sum_below n f) → p ≡ n
-      → rows_gap order p ≡ total_gap n s t T
-  unfolding total_gap pair_sum
-  rows_all order p places e = rw e (places column_gap)
+          → distance (get_or t (j * o.n + k) 0) (s * count_of o p k) ≡ gap_size o.n s t T k j
+      same k m = unfold cell in mirror_size o.n s t T is j k lj (omega arith)

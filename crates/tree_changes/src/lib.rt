@@ -3,7 +3,7 @@
 
 ghost use Rattle.std.specs.Prelude.{◌≡◌, true, ◌++◌, ◌-◌, ◌*◌, ◌≤◌, length, take, drop};
 ghost use Rattle.limits.specs.Limits.{IsLeafCount};
-ghost use Rattle.refusals.specs.Refusals.{outcome, written};
+ghost use Rattle.refusals.specs.Refusals.{written};
 ghost use Rattle.tree_records.specs.Records.{tree_outcome};
 ghost use Rattle.trees.specs.Listings.{KeepsRules, tree_of, standard};
 ghost use Rattle.trees.specs.Tables.{table_of};
@@ -13,8 +13,8 @@ ghost use Rattle.change_answers.specs.Operations.{change_answer, change_record, 
 
 use change_answers::Change;
 use change_checks::count_after;
-use refusals::Outcome;
-use tree_records::{Origin, TreeOutcome, mark};
+use refusals::Refusal;
+use tree_records::Origin;
 
 // Writes the standard listing of the changed tree at the front of `out`.
 fn write_rows(change: Change, n: usize, listing: &[u16], out: &mut [u16])
@@ -45,7 +45,8 @@ fn write_table(n: usize, numbers: &[u16], out: &mut [u32])
     tree_tables::fill_table(n, &numbers[..end], out);
 }
 
-// Judges a change, and writes the changed tree's standard listing and its table, counted afresh.
+// Judges a change, writes the changed tree's standard listing and its table, counted afresh, and marks it grafted.
+// No struct of the lent inputs: `graft` and `prune` take them as C lends them, and would make one for this call.
 fn apply(
     change: Change,
     n: usize,
@@ -53,21 +54,18 @@ fn apply(
     table: &[u32],
     out: &mut [u16],
     cells: &mut [u32],
-) -> Outcome
-    ensures answer { result ≡ outcome (change_answer n listing.now table.now change
+) -> Result<Origin, Refusal>
+    ensures answer { result ≡ tree_outcome (change_record n listing.now table.now change
         (length out.old) (length cells.old)) }
     ensures listing { out.new ≡ written (change_answer n listing.now table.now
         change (length out.old) (length cells.old)) out.old }
     ensures table { cells.new ≡ written (change_table n listing.now table.now
         change (length out.old) (length cells.old)) cells.old }
 {
-    let judged = change_checks::judge(change, n, listing, table, out.len(), cells.len());
-    let Outcome::Done = judged else {
-        return judged;
-    };
+    change_checks::judge(change, n, listing, table, out.len(), cells.len())?;
     write_rows(change, n, listing, out);
     write_table(count_after(n, change), out, cells);
-    judged
+    Ok(Origin::Grafted)
 }
 
 // Grafts leaf n on an edge: writes the standard listing of the grafted tree and its table, and marks it grafted.
@@ -78,7 +76,7 @@ pub fn graft(
     edge: usize,
     out: &mut [u16],
     cells: &mut [u32],
-) -> TreeOutcome
+) -> Result<Origin, Refusal>
     ensures answer { result ≡ tree_outcome (change_record n listing.now table.now (Graft edge)
         (length out.old) (length cells.old)) }
     ensures listing { out.new ≡ written (change_answer n listing.now table.now
@@ -86,8 +84,7 @@ pub fn graft(
     ensures table { cells.new ≡ written (change_table n listing.now table.now
         (Graft edge) (length out.old) (length cells.old)) cells.old }
 {
-    let grafted = apply(Change::Graft(edge), n, listing, table, out, cells);
-    mark(Origin::Grafted, grafted)
+    apply(Change::Graft(edge), n, listing, table, out, cells)
 }
 
 // Prunes a leaf: writes the standard listing of the pruned tree and its table, and marks it grafted.
@@ -98,7 +95,7 @@ pub fn prune(
     leaf: usize,
     out: &mut [u16],
     cells: &mut [u32],
-) -> TreeOutcome
+) -> Result<Origin, Refusal>
     ensures answer { result ≡ tree_outcome (change_record n listing.now table.now (Prune leaf)
         (length out.old) (length cells.old)) }
     ensures listing { out.new ≡ written (change_answer n listing.now table.now
@@ -106,6 +103,5 @@ pub fn prune(
     ensures table { cells.new ≡ written (change_table n listing.now table.now
         (Prune leaf) (length out.old) (length cells.old)) cells.old }
 {
-    let pruned = apply(Change::Prune(leaf), n, listing, table, out, cells);
-    mark(Origin::Grafted, pruned)
+    apply(Change::Prune(leaf), n, listing, table, out, cells)
 }

@@ -1,18 +1,18 @@
 -- Answers that are tree records: what code returns for one, made of the answer that tells no origin.
+use Rattle.std.specs.Prelude.{Result}
 use mathlib.Core.Path.{◌≡◌, sym}
 use mathlib.Core.List.{List}
 use Prim.Native.Nat.{ℕ}
-use Rattle.refusals.specs.declared.Outcome.{Outcome}
-use Rattle.refusals.specs.Refusals.{Answer, accepted, refused, outcome}
+use Rattle.refusals.specs.declared.Refusal.{Refusal}
+use Rattle.refusals.specs.Refusals.{Outcome, Answer, accepted, refused, outcome}
 use Rattle.refusals.proofs.Answers.{accepted_not_refused}
 use Rattle.tree_records.specs.declared.Origin.{Origin}
-use Rattle.tree_records.specs.declared.TreeOutcome.{TreeOutcome}
 use Rattle.tree_records.specs.Records.{TreeRecord, marked, tree_outcome}
 use Rattle.tree_records.specs.inner.Outcomes.{marked_outcome}
 
 -- what `mark` makes of the outcome of an answer
 pub mark_told :
-    (n : ℕ) (o : Origin) (a : Answer (List ℕ)) {q : Outcome} {r : TreeOutcome} → r ≡ marked_outcome o q
+    (n : ℕ) (o : Origin) (a : Answer (List ℕ)) {q : Outcome} {r : Result Origin Refusal} → r ≡ marked_outcome o q
     → q ≡ outcome a → r ≡ tree_outcome (marked n o a)
 unfolding outcome marked tree_outcome
 mark_told n o (accepted l) h e = rw e at h

@@ -1,9 +1,8 @@
 -- Tree records (02, request 3): a leaf count, a listing and an origin; and the answers of operations that make one.
-use Rattle.std.specs.Prelude.{List, ℕ}
+use Rattle.std.specs.Prelude.{List, ℕ, Result, Ok, Err}
+use Rattle.refusals.specs.declared.Refusal.{Refusal}
 use Rattle.refusals.specs.Refusals.{Answer, accepted, refused}
 use Rattle.tree_records.specs.declared.Origin.{Origin}
-use Rattle.tree_records.specs.declared.TreeOutcome.{TreeOutcome}
-use Rattle.tree_records.specs.declared.TreeOutcome.TheVariants.{Marked, Refused}
 
 pub record TreeRecord : Type 0 where
   pub leaves : ℕ
@@ -16,6 +15,6 @@ marked n o (accepted l) = accepted (record { leaves = n; listing = l; origin = o
 marked n o (refused r) = refused r
 
 -- the answer as the enum that code returns: the origin, while the listing stands in a lent buffer
-unfoldable pub tree_outcome : Answer TreeRecord → TreeOutcome
-tree_outcome (accepted R) = Marked R.origin
-tree_outcome (refused r) = Refused r
+unfoldable pub tree_outcome : Answer TreeRecord → Result Origin Refusal
+tree_outcome (accepted R) = Ok R.origin
+tree_outcome (refused r) = Err r

@@ -5,10 +5,12 @@ ghost use Rattle.std.specs.Prelude.{◌≡◌};
 ghost use Rattle.tree_records.specs.Origins.{origin_number, origin_of};
 ghost use Rattle.tree_records.specs.inner.Outcomes.{marked_outcome};
 
-use refusals::{Outcome, Refusal};
+use refusals::Refusal;
+use replies::Figured;
+use std::fmt;
 
 // Where a tree came from, in the order of the numbers that C sees.
-#[derive(Clone, Copy)]
+#[derive(Clone, Copy, Debug, PartialEq, Eq)]
 pub enum Origin {
     // 0: a rebuild made it, and it has the table that the rebuild was given
     Rebuilt,
@@ -23,50 +25,67 @@ pub enum Origin {
 }
 
 // The number of an origin.
-pub fn number(origin: Origin) -> usize
-    ensures { result ≡ origin_number origin }
-{
-    match origin {
-        Origin::Rebuilt => 0,
-        Origin::Listed => 1,
-        Origin::Imported => 2,
-        Origin::Guessed => 3,
-        Origin::Grafted => 4,
+impl From<Origin> for usize {
+    ghost from_gives = { λ origin number. number ≡ origin_number origin };
+
+    fn from(origin: Origin) -> usize {
+        match origin {
+            Origin::Rebuilt => 0,
+            Origin::Listed => 1,
+            Origin::Imported => 2,
+            Origin::Guessed => 3,
+            Origin::Grafted => 4,
+        }
     }
 }
 
 // The origin that a caller from C names by its number; a number above 4 is taken as listed.
-pub fn origin_of(number: u32) -> Origin
-    ensures { result ≡ origin_of number }
-{
-    if number == 0 {
-        return Origin::Rebuilt;
+impl From<u32> for Origin {
+    ghost from_gives = { λ number origin. origin ≡ origin_of number };
+
+    fn from(number: u32) -> Origin {
+        // An `if` for each number: of a `match` on numbers the proof learns nothing in the last arm.
+        if number == 0 {
+            return Origin::Rebuilt;
+        }
+        if number == 2 {
+            return Origin::Imported;
+        }
+        if number == 3 {
+            return Origin::Guessed;
+        }
+        if number == 4 {
+            return Origin::Grafted;
+        }
+        Origin::Listed
     }
-    if number == 2 {
-        return Origin::Imported;
-    }
-    if number == 3 {
-        return Origin::Guessed;
-    }
-    if number == 4 {
-        return Origin::Grafted;
-    }
-    Origin::Listed
 }
 
-// What an operation answers that makes a tree record: the origin of the tree whose listing stands in the lent buffer.
-#[derive(Clone, Copy)]
-pub enum TreeOutcome {
-    Marked(Origin),
-    Refused(Refusal),
+impl fmt::Display for Origin {
+    fn fmt<W: fmt::Write>(&self, f: &mut fmt::Formatter<W>) -> fmt::Result {
+        f.write_str(match self {
+            Origin::Rebuilt => "rebuilt",
+            Origin::Listed => "listed",
+            Origin::Imported => "imported",
+            Origin::Guessed => "guessed",
+            Origin::Grafted => "grafted",
+        })
+    }
+}
+
+// The reply of a call that makes a tree record tells the origin's number.
+impl Figured for Origin {
+    ghost told = { origin_number };
+
+    fn figure(self) -> usize {
+        usize::from(self)
+    }
 }
 
 // The answer of an operation whose result is the listing of a tree of this origin.
-pub fn mark(origin: Origin, answer: Outcome) -> TreeOutcome
+pub fn mark(origin: Origin, answer: Result<(), Refusal>) -> Result<Origin, Refusal>
     ensures { result ≡ marked_outcome origin answer }
 {
-    let Outcome::Refused(r) = answer else {
-        return TreeOutcome::Marked(origin);
-    };
-    TreeOutcome::Refused(r)
+    answer?;
+    Ok(origin)
 }

@@ -8,18 +8,18 @@ use Rattle.block_gaps.proofs.add_row_of_class.Goals as goal
 pub returns-then-classes-i : goal.returns-then-classes-i
 returns-then-classes-i c = let other = ne_eqb _ _ c.if-classes-i.true in (row_of_other other, row_of_other other)
 
-pub returns-then-scale-eq1 : goal.returns-then-scale-eq1
-returns-then-scale-eq1 c =
+pub returns-then-t-eq1 : goal.returns-then-t-eq1
+returns-then-t-eq1 c =
     let same = eq-eqb _ _ c.if-classes-i.false in
-    let few = c.requires.0.few in
-    rw c.if-scale-eq1.true
+    let few = c.args.t.fit.few in
+    rw c.if-t-eq1.true
     (row_of_class few same c.add_row.ensures.0, row_of_class few same c.add_row.ensures.1)
 
 pub returns : goal.returns
 returns c =
     let same = eq-eqb _ _ c.if-classes-i.false in
-    let few = c.requires.0.few in
+    let few = c.args.t.fit.few in
     (row_of_class few same c.add_row-2.ensures.0, row_of_class few same c.add_row-2.ensures.1)
 
 pub bounds-classes-i : goal.bounds-classes-i
-bounds-classes-i c = omega (arith, c.requires.0.few, c.requires.1)
+bounds-classes-i c = omega (arith, c.args.t.fit.few, c.requires.0)

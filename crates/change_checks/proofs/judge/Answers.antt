@@ -14,7 +14,7 @@ use Rattle.change_answers.specs.Operations.{count_after}
 use Rattle.change_checks.specs.inner.Refusals.{change_sizes_refusal, cells_or_own_refusal}
 use Rattle.change_checks.proofs.Refusals.{first_count_told, sizes_right, sizes_stop, rules_stop, keeps}
 use Rattle.change_checks.proofs.Refusals.{cells_decide}
-use Rattle.change_checks.proofs.judge.Goals.{After-judge_sizes-sizes, Else-not-leaf_count, In-Done, In-Done-rules}
+use Rattle.change_checks.proofs.judge.Goals.{After-judge_sizes, Else-not-leaf_count, In_ok-judge_sizes, In_ok-judge}
 use Rattle.change_checks.proofs.judge.Goals as goal
 
 pub returns-then-not-leaf_count : goal.returns-then-not-leaf_count
@@ -26,66 +26,66 @@ count c = is_leaf_count _ (sym c.leaf_count.ensures ∙ c.if-not-leaf_count.fals
 
 -- what was judged of the sizes
 sizes :
-    (c : After-judge_sizes-sizes)
+    (c : After-judge_sizes)
     → let a = c.args in
-    c.judge_sizes-sizes.result
+    c.judge_sizes.result
     ≡ outcome_of
     (change_sizes_refusal a.n (count_after a.n a.change) (length a.listing.now) (length a.table.now)
     a.room a.space)
 sizes c =
     let a = c.args in
-    c.judge_sizes-sizes.ensures
+    c.judge_sizes.ensures
     ∙ ap (λ m. outcome_of
     (change_sizes_refusal a.n m (length a.listing.now) (length a.table.now) a.room a.space))
     c.count_after-m.ensures
 
-pub returns-in_default : goal.returns-in_default
-returns-in_default c =
-    sizes_stop _ _ _ _ _ _ (count (goal.at.returns-in_default c).Else-not-leaf_count)
-    (sizes (goal.at.returns-in_default c).After-judge_sizes-sizes) c.in_default.is
+pub returns-in_err-judge_sizes : goal.returns-in_err-judge_sizes
+returns-in_err-judge_sizes c =
+    sizes_stop _ _ _ _ _ _ (count (goal.at.returns-in_err-judge_sizes c).Else-not-leaf_count)
+    (sizes (goal.at.returns-in_err-judge_sizes c).After-judge_sizes) c.in_err-judge_sizes.was c.from_residual.ensures
 
 -- nothing of them is refused
 fine :
-    (c : In-Done)
+    (c : In_ok-judge_sizes)
     → let a = c.args in
     change_sizes_refusal a.n (count_after a.n a.change) (length a.listing.now) (length a.table.now)
     a.room a.space
     ≡ none
-fine c = call_passed _ (sizes (goal.at.judge-rules-requires c).After-judge_sizes-sizes) c.in-Done.is
+fine c = call_passed _ (sizes (goal.at.judge-requires c).After-judge_sizes) c.in_ok-judge_sizes.was
 
 first :
-    (c : In-Done)
+    (c : In_ok-judge_sizes)
     → IsLeafCount c.args.n
-first c = count (goal.at.judge-rules-requires c).Else-not-leaf_count
+first c = count (goal.at.judge-requires c).Else-not-leaf_count
 
-pub returns-in_default-rules : goal.returns-in_default-rules
-returns-in_default-rules c =
-    rules_stop _ _ _ _ _ _ (first (goal.at.returns-in_default-rules c).In-Done)
-    (fine (goal.at.returns-in_default-rules c).In-Done) c.judge-rules.ensures c.in_default-rules.is
+pub returns-in_err-judge : goal.returns-in_err-judge
+returns-in_err-judge c =
+    rules_stop _ _ _ _ _ _ (first (goal.at.returns-in_err-judge c).In_ok-judge_sizes)
+    (fine (goal.at.returns-in_err-judge c).In_ok-judge_sizes) c.judge.ensures c.in_err-judge.was
+    c.from_residual-in_err-judge.ensures
 
 -- nor of the rules
 ruled :
-    (c : In-Done-rules)
+    (c : In_ok-judge)
     → let a = c.args in
     listing_refusal a.n a.listing.now 0 0 ≡ none
-ruled c = call_passed _ c.judge-rules.ensures c.in-Done-rules.is
+ruled c = call_passed _ c.judge.ensures c.in_ok-judge.was
 
 pub judge_cells-requires : goal.judge_cells-requires
 judge_cells-requires c =
     let a = c.args in
-    let right = sizes_right _ _ _ _ _ _ (fine (goal.at.judge_cells-requires c).In-Done) in (
-      first (goal.at.judge_cells-requires c).In-Done,
-      keeps a.n a.listing.now a.table.now a.change a.room a.space (first (goal.at.judge_cells-requires c).In-Done)
-          (fine (goal.at.judge_cells-requires c).In-Done) (ruled (goal.at.judge_cells-requires c).In-Done-rules),
-      right.square,
-    )
+    let at = goal.at.judge_cells-requires c in
+    let count = first at.In_ok-judge_sizes in
+    let s = fine at.In_ok-judge_sizes in
+    let kept = keeps a.n a.listing.now a.table.now a.change a.room a.space count s (ruled at.In_ok-judge) in
+    (count, kept, (sizes_right _ _ _ _ _ _ s).square)
 
 pub returns : goal.returns
 returns c =
     let a = c.args in
-    cells_decide a.n a.listing.now a.table.now a.change a.room a.space (first (goal.at.returns c).In-Done)
-    (fine (goal.at.returns c).In-Done)
-    (ruled (goal.at.returns c).In-Done-rules)
+    cells_decide a.n a.listing.now a.table.now a.change a.room a.space (first (goal.at.returns c).In_ok-judge_sizes)
+    (fine (goal.at.returns c).In_ok-judge_sizes)
+    (ruled (goal.at.returns c).In_ok-judge)
     (c.judge_cells.ensures
     ∙ ap (λ b. outcome_of (cells_or_own_refusal b a.n a.table.now (tree_of a.n a.listing.now)))
     c.is_there.ensures)
@@ -93,11 +93,11 @@ returns c =
 pub count_after-m-requires : goal.count_after-m-requires
 count_after-m-requires c = count c
 
-pub judge_sizes-sizes-requires : goal.judge_sizes-sizes-requires
-judge_sizes-sizes-requires c = count (goal.at.judge_sizes-sizes-requires c).Else-not-leaf_count
+pub judge_sizes-requires : goal.judge_sizes-requires
+judge_sizes-requires c = count (goal.at.judge_sizes-requires c).Else-not-leaf_count
 
-pub judge-rules-requires : goal.judge-rules-requires
-judge-rules-requires c = search rules
+pub judge-requires : goal.judge-requires
+judge-requires c = search rules
 
 pub is_there-requires : goal.is_there-requires
-is_there-requires c = first (goal.at.is_there-requires c).In-Done
+is_there-requires c = first (goal.at.is_there-requires c).In_ok-judge_sizes

@@ -5,6 +5,7 @@ use Prim.Native.Nat.{ℕ, ◌+◌, ◌*◌, ◌^◌, ◌<◌}
 use lib.ListN.{length}
 use Rattle.base.proofs.Filling.{length_filled}
 use Rattle.trees.specs.Tables.{cell}
+use Rattle.edge_weights.proofs.RowGaps.{tables_fit}
 use Rattle.edge_totals.proofs.AllTotals.{filled_store, totals_move, at_last, spread_ready}
 use Rattle.edge_totals.proofs.write_totals.Goals.{After-weigh_rows}
 use Rattle.edge_totals.proofs.write_totals.Goals as goal
@@ -16,7 +17,7 @@ cells :
     cell (a.n + 1) a.new.now i j < 2 ^ 32)
 unfolding cell
 cells c i j =
-    omega (arith, c.shared_slice_known-3-1.given (i * (c.args.n + 1) + j))
+    omega (arith, c.type_inv.new (i * (c.args.n + 1) + j))
 
 pub spread_totals-requires : goal.spread_totals-requires
 spread_totals-requires c =
@@ -35,3 +36,6 @@ returns c =
 pub shape_of-out : goal.shape_of-out
 shape_of-out c =
     ap length (returns c) ∙ length_filled _ _ _ c.requires.1
+
+pub invariant_of-t : goal.invariant_of-t
+invariant_of-t c = record { fit = tables_fit c.requires.0 }

@@ -1,10 +1,25 @@
 -- The weights of all rows as they are kept by number: what moving leaf n to the edge above a number adds to the total
 -- gap and takes from it. No public contract cites it.
-use Rattle.std.specs.Prelude.{◌≡◌, List, ℕ, ◌+◌, ◌-◌, ◌*◌, ◌<◌, length, get_or}
+use Rattle.std.specs.Prelude.{◌≡◌, List, ℕ, ◌+◌, ◌-◌, ◌*◌, ◌<◌, length, map, get_or}
 use Rattle.limits.specs.Limits.{most_nodes}
 use Rattle.trees.specs.Listings.{subtree_at, tree_of}
 use Rattle.grafted_cells.specs.inner.Moves.{new_row_gap}
+use Rattle.edge_weights.specs.declared.Weight.{Weight}
 use Rattle.edge_weights.specs.inner.Weights.{Weighed}
+
+-- what stands at a number that is not weighed
+abbrev pub unweighed : Weight
+unweighed = record { gain = 0; loss = 0; row = 0 }
+
+-- the gains, the losses and the gaps in the row of leaf n, by number
+abbrev pub gains : List Weight → List ℕ
+gains = map (λ w. w.gain)
+
+abbrev pub losses : List Weight → List ℕ
+losses = map (λ w. w.loss)
+
+abbrev pub rows : List Weight → List ℕ
+rows = map (λ w. w.row)
 
 -- the number at place q of a listing, whose brother is named at place r, is weighed
 abbrev pub WeighedAt : (n s : ℕ) (l t u gains losses rows : List ℕ) (q r : ℕ) → Type 0

@@ -7,6 +7,6 @@ pub returns-then-columns-rows : goal.returns-then-columns-rows
 returns-then-columns-rows c =
     let p = c.requires in
     let e = c.add_block.ensures in record {
-      as_is = (e.as_is.0 ∙ block_gap_turn _ _ _ _ _ _ _ p.3 p.2, e.as_is.1);
-      larger = (e.larger.0 ∙ block_gap_turn _ _ _ _ _ _ _ p.3 p.2, e.larger.1);
+      as_is = (e.as_is.0 ∙ block_gap_turn _ _ _ _ _ _ _ p.2 p.1, e.as_is.1);
+      larger = (e.larger.0 ∙ block_gap_turn _ _ _ _ _ _ _ p.2 p.1, e.larger.1);
     }

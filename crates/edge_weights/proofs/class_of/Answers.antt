@@ -13,6 +13,6 @@ unfolding class_of
 returns-then-label-b c =
     rw (ne_eqb _ _ c.if-label-a.false, c.if-label-b.true, eqb_same c.args.b)
 
-pub returns : goal.returns
+pub returns-else-label-b : goal.returns-else-label-b
 unfolding class_of
-returns c = rw (ne_eqb _ _ c.if-label-a.false, ne_eqb _ _ c.if-label-b.false)
+returns-else-label-b c = rw (ne_eqb _ _ c.if-label-a.false, ne_eqb _ _ c.if-label-b.false)

@@ -8,6 +8,6 @@ pub returns-then-label-f : goal.returns-then-label-f
 unfolding count_at
 returns-then-label-f c = rw (c.if-label-f.true, eqb_same c.args.f)
 
-pub returns : goal.returns
+pub returns-else-label-f : goal.returns-else-label-f
 unfolding count_at
-returns c = rw (ne_eqb _ _ c.if-label-f.false)
+returns-else-label-f c = rw (ne_eqb _ _ c.if-label-f.false)

@@ -1,10 +1,9 @@
 -- `eligible_pairs::block_fits` meets its contract. The loop's invariant: the rows passed have no wrong cell.
 use mathlib.Core.Path.{◌≡◌}
 use mathlib.Core.List.{List}
-use Prim.Native.Nat.{ℕ, ◌+◌, ◌-◌, ◌≤◌, ◌<◌}
+use Prim.Native.Nat.{ℕ, ◌+◌, ◌<◌}
 use lib.ListN.{get_or}
 use Rattle.trees.specs.Tables.{cell}
-use Rattle.eligible_pairs.specs.inner.Lent.{lent_table}
 use Rattle.eligible_pairs.proofs.block_fits.Given as goal
 
 -- row x has no wrong cell of a leaf of b, if x is in a
@@ -13,8 +12,5 @@ RowFits n t label m a b e x =
     get_or label x 0 ≡ a → (y : ℕ) → y < n → get_or label y 0 ≡ b → cell n t x y ≡ (e + get_or m x 0) + get_or m y 0
 
 abbrev pub invariant-loop-x : goal.invariant-loop-x
-invariant-loop-x l =
-    (l.x ≤ l.n) × ((i : ℕ) → i < l.x → RowFits l.n (lent_table l.n l.table l.packed) l.label l.m l.a l.b l.e i)
-
-abbrev pub decreases-loop-x : goal.decreases-loop-x
-decreases-loop-x l = l.n - l.x
+invariant-loop-x g l =
+    (i : ℕ) → i < l.x → RowFits l.n (g.T.Table.cells l.table l.n) l.arrays.label l.arrays.m l.a l.b l.e i

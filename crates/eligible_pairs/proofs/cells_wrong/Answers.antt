@@ -1,6 +1,6 @@
 -- `eligible_pairs::cells_wrong` meets its contract. The loop's invariant: `bad` counts the wrong cells passed.
 use mathlib.Core.Path.{◌≡◌, refl}
-use Prim.Native.Nat.{◌+◌, ◌-◌}
+use Prim.Native.Nat.{◌+◌}
 use native.Mathlib.Omega.{arith}
 use Rattle.base.specs.Numbers.{count_below}
 use Rattle.base.proofs.Counts.{count_le}
@@ -11,7 +11,7 @@ use Rattle.eligible_pairs.proofs.cells_wrong.Goals as goal
 
 pub loop-y-init : goal.loop-y-init
 unfolding count_below
-loop-y-init c = (omega arith, refl)
+loop-y-init c = refl
 
 pub overflow_add-e : goal.overflow_add-e
 overflow_add-e c =
@@ -22,10 +22,10 @@ unfolding mismatch_in
 overflow_add-bad c =
     let a = c.args in
     let l = c.loop-y in
-    let f = mismatch_in a.row.now a.label.now a.m.now a.b a.e in
+    let f = mismatch_in a.row.now a.arrays.now.label a.arrays.now.m a.b a.e in
     omega (
       arith,
-      count_turn f l.y l.bad c.wrong-bad.result l.invariant.1 c.wrong-bad.ensures,
+      count_turn f l.y l.bad c.wrong-bad.result l.invariant c.wrong-bad.ensures,
       count_le (l.y + 1) f,
     )
 
@@ -34,10 +34,5 @@ unfolding mismatch_in
 loop-y-preserved c =
     let a = c.args in
     let l = c.loop-y in
-    let f = mismatch_in a.row.now a.label.now a.m.now a.b a.e in
-    (omega arith, count_turn f l.y l.bad c.wrong-bad.result l.invariant.1 c.wrong-bad.ensures)
-
-pub returns : goal.returns
-returns c =
-    let e : c.loop-y.y ≡ c.args.n = omega arith in
-    rw e at c.loop-y.invariant.1
+    let f = mismatch_in a.row.now a.arrays.now.label a.arrays.now.m a.b a.e in
+    count_turn f l.y l.bad c.wrong-bad.result l.invariant c.wrong-bad.ensures

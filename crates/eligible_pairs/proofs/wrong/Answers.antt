@@ -1,16 +1,24 @@
 -- `eligible_pairs::wrong` meets its contract: the tests of the code are those of `mismatch`.
+use mathlib.Core.Path.{◌≡◌, refl, ap, ◌∙◌}
+use mathlib.Core.Bool.{Bool, true, false, not}
+use Rattle.std.specs.Int.{from_bool}
 use borrow.Author.Tests.{eq-eqb, ne_eqb}
+use Rattle.base.specs.Numbers.{indicator}
 use Rattle.eligible_pairs.specs.inner.Mismatches.{mismatch}
+use Rattle.eligible_pairs.proofs.wrong.Goals.{Joined-label-b, then-label-b, else-label-b}
 use Rattle.eligible_pairs.proofs.wrong.Goals as goal
 
-pub returns-then-label-b : goal.returns-then-label-b
-unfolding mismatch
-returns-then-label-b c = rw (ne_eqb _ _ c.if-label-b.true)
+counted : (b : Bool) → from_bool b ≡ indicator b 1
+counted true = refl
+counted false = refl
 
-pub returns-then-as_expected : goal.returns-then-as_expected
+tested : (c : Joined-label-b) → let a = c.args in c.if-label-b.from ≡ mismatch a.label a.b a.cell a.expected
 unfolding mismatch
-returns-then-as_expected c = rw (eq-eqb _ _ c.if-label-b.false, ← c.as_expected.ensures, c.if-as_expected.true)
+tested c = elim c.if-label-b.branch [
+  | then-label-b w ↦ w.from-is ∙ rw (eq-eqb _ _ w.if-label-b.true) (ap not w.as_expected.ensures)
+  | else-label-b w ↦ w.from-is ∙ rw (ne_eqb _ _ w.if-label-b.false)
+]
 
 pub returns : goal.returns
-unfolding mismatch
-returns c = rw (eq-eqb _ _ c.if-label-b.false, ← c.as_expected.ensures, c.if-as_expected.false)
+returns c =
+    c.from.ensures ∙ counted _ ∙ ap (λ r. indicator r 1) (tested (goal.at.returns c).Joined-label-b)

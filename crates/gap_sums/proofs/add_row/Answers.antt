@@ -1,6 +1,6 @@
 -- `gap_sums::add_row` meets its contract. The loop's invariant: the columns passed have the gaps of the row besides.
 use mathlib.Core.Path.{◌≡◌, sym}
-use Prim.Native.Nat.{◌-◌, ◌<◌}
+use Prim.Native.Nat.{◌<◌}
 use native.Mathlib.Omega.{arith}
 use lib.ListN.{length, get_or}
 use Rattle.base.proofs.Filling.{filled_none, filled_more, getD_next}
@@ -29,7 +29,3 @@ loop-y-preserved c =
     let old : get_or l.columns l.y 0 ≡ get_or c.args.columns.now l.y 0 =
     rw l.invariant.1 (getD_next _ _ l.y 0 room) in
     (omega arith, filled_more _ _ l.invariant.1 room (rw (old, c.apart.ensures.0)))
-
-pub returns : goal.returns
-returns c =
-    let e : c.loop-y.y ≡ c.args.n = omega arith in rw e at c.loop-y.invariant.1

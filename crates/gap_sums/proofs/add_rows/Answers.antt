@@ -1,6 +1,5 @@
 -- `gap_sums::add_rows` meets its contract. The loop's invariant: each column is the sum over the rows passed.
 use mathlib.Core.Path.{◌≡◌, refl, ◌∙◌}
-use Prim.Native.Nat.{◌-◌}
 use native.Mathlib.Omega.{arith}
 use lib.ListN.{get_or}
 use Rattle.base.specs.Numbers.{sum_below}
@@ -24,7 +23,7 @@ add_row_of-requires c =
       record {
         long = l.invariant.1;
         small = λ y ly. rw (l.invariant.2 y ly)
-            (column_small a.n a.table.now a.label.now a.m.now a.a (get_or a.due.now y 0) y l.x
+            (column_small a.n a.table.now a.arrays.now.label a.arrays.now.m a.a (get_or a.due.now y 0) y l.x
             (λ k. omega (arith, c.shared_slice_known-1.given k)) c.requires.2 (c.requires.3 y ly) l.invariant.0
             c.requires.0);
       },
@@ -49,7 +48,7 @@ returns c =
       few = record {
         long = l.invariant.1;
         small = λ y ly. rw (l.invariant.2 y ly)
-            (column_small a.n a.table.now a.label.now a.m.now a.a (get_or a.due.now y 0) y l.x
+            (column_small a.n a.table.now a.arrays.now.label a.arrays.now.m a.a (get_or a.due.now y 0) y l.x
             (λ k. omega (arith, c.shared_slice_known-1.given k)) c.requires.2 (c.requires.3 y ly)
             l.invariant.0 c.requires.0);
       };

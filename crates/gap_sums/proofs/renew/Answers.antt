@@ -24,7 +24,7 @@ store-requires c =
       c.requires.2,
       λ k l.
           rw (c.add_columns.ensures k l)
-          (labels_small c.args.label.now k c.find_columns.ensures.few f.few),
+          (labels_small c.args.arrays.now.label k c.find_columns.ensures.few f.few),
     )
 
 pub returns : goal.returns

@@ -1,7 +1,6 @@
 -- `gap_sums::row_gaps` meets its contract. The loop's invariant: `low` and `high` are together the sum over the cells
 -- passed.
 use mathlib.Core.Path.{◌≡◌, refl}
-use Prim.Native.Nat.{◌-◌}
 use native.Mathlib.Omega.{arith}
 use Rattle.base.specs.Numbers.{sum_below}
 use Rattle.pair_counts.proofs.Pairs.{P_most}
@@ -16,14 +15,6 @@ pub overflow_add-due : goal.overflow_add-due
 overflow_add-due c =
     omega (arith, P_most, c.requires.2 c.loop-x.x (omega arith))
 
-pub overflow_add-low : goal.overflow_add-low
-overflow_add-low c =
-    omega (arith, c.requires.0, c.loop-x.invariant.2)
-
-pub overflow_add-high : goal.overflow_add-high
-overflow_add-high c =
-    omega (arith, c.requires.0, c.loop-x.invariant.3, c.gap_of-gap.ensures.1)
-
 pub loop-x-preserved : goal.loop-x-preserved
 loop-x-preserved c =
     let l = c.loop-x in
@@ -33,15 +24,3 @@ loop-x-preserved c =
       omega (arith, l.invariant.2),
       omega (arith, l.invariant.3, c.gap_of-gap.ensures.1),
     )
-
-pub overflow_mul-result : goal.overflow_mul-result
-overflow_mul-result c = omega (arith, c.loop-x.invariant.3, c.requires.0)
-
-pub overflow_add-result : goal.overflow_add-result
-overflow_add-result c = omega (arith, c.loop-x.invariant.2, c.loop-x.invariant.3, c.requires.0)
-
-pub returns : goal.returns
-returns c =
-    let l = c.loop-x in
-    let e : l.x ≡ c.args.n = omega arith in
-    (rw e at l.invariant.1, omega (arith, l.invariant.2, l.invariant.3, c.requires.0))

@@ -1,7 +1,7 @@
 -- `gap_sums::row_gaps` meets its contract. The loop's invariant: `low` and `high` are together the sum over the cells
 -- passed.
 use mathlib.Core.Path.{◌≡◌}
-use Prim.Native.Nat.{◌+◌, ◌-◌, ◌*◌, ◌≤◌}
+use Prim.Native.Nat.{◌+◌, ◌*◌, ◌≤◌}
 use lib.Dec.{eqb}
 use lib.ListN.{get_or}
 use Rattle.base.specs.Numbers.{indicator, sum_below, distance}
@@ -11,9 +11,6 @@ abbrev pub invariant-loop-x : goal.invariant-loop-x
 invariant-loop-x l =
     (l.x ≤ l.n)
     × (l.low + 65536 * l.high
-    ≡ sum_below l.x (λ k. indicator (eqb (get_or l.label k 0) l.a)
-    (distance (get_or l.row k 0) (l.due + get_or l.m k 0))))
+    ≡ sum_below l.x (λ k. indicator (eqb (get_or l.arrays.label k 0) l.a)
+    (distance (get_or l.row k 0) (l.due + get_or l.arrays.m k 0))))
     × (l.low ≤ l.x * 65535) × (l.high ≤ l.x * 65535)
-
-abbrev pub decreases-loop-x : goal.decreases-loop-x
-decreases-loop-x l = l.n - l.x

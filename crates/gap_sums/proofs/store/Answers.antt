@@ -1,24 +1,10 @@
 -- `gap_sums::store` meets its contract. The loop's invariant: the sums with the labels passed are stored.
 use mathlib.Core.Path.{◌≡◌, refl}
-use Prim.Native.Nat.{◌-◌, ◌<◌}
+use Prim.Native.Nat.{◌<◌}
 use native.Mathlib.Decide.{ℕ_discrete}
 use native.Mathlib.Omega.{arith}
 use Rattle.gap_sums.proofs.Columns.{store_turn, store_skip}
 use Rattle.gap_sums.proofs.store.Goals as goal
-
-pub loop-k-init : goal.loop-k-init
-loop-k-init c = (
-  omega arith,
-  record {
-    fits = c.requires.2;
-    new = λ k l. absurd (omega arith);
-    others = λ i j l m ia ja. refl;
-  },
-)
-
-pub store_one-requires : goal.store_one-requires
-store_one-requires c =
-    (c.requires.0, c.requires.1, omega arith, c.loop-k.invariant.1.fits.long)
 
 pub loop-k-preserved : goal.loop-k-preserved
 loop-k-preserved c =
@@ -32,6 +18,3 @@ loop-k-preserved c =
             (store_turn c.requires.0 c.requires.1 lk l.invariant.1 d (c.requires.3 l.k lk))
       ],
     )
-
-pub returns : goal.returns
-returns c = let e : c.loop-k.k ≡ c.args.n = omega arith in rw e at c.loop-k.invariant.1

@@ -11,6 +11,3 @@ returns-then-k-a c =
 pub returns-then-a-k : goal.returns-then-a-k
 returns-then-a-k c =
     (λ e. absurd (omega arith), λ d. rw (place_up _ _ c.if-a-k.true, c.pair_place-then-a-k.ensures.0))
-
-pub returns-else-a-k : goal.returns-else-a-k
-returns-else-a-k c = (λ e. refl, λ d. absurd (omega arith))

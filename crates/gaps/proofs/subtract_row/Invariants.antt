@@ -1,16 +1,10 @@
--- `gaps::subtract_row` meets its contract: the rows before i and j gaps of row i are written.
-use Prim.Native.Nat.{◌+◌, ◌-◌, ◌*◌, ◌≤◌}
-use lib.IntN.{pos, ◌-ℤ◌}
-use lib.ListN.{get_or}
-use Rattle.least_depths.specs.inner.Depths.{count_in}
+-- `gaps::subtract_row` meets its contract: the rows before the row and j gaps of it are written.
+use Rattle.leaf_orders.specs.inner.LeafOrders.{at}
 use Rattle.least_depths.specs.inner.Rows.{RowWritten}
+use Rattle.gaps.specs.inner.Rows.{gap_of}
 use Rattle.gaps.proofs.subtract_row.Given as goal
 
 abbrev pub invariant-loop-j : goal.invariant-loop-j
-invariant-loop-j l =
-    (l.j ≤ l.n)
-    × RowWritten l.n l.i (λ k. pos (get_or l.cells (l.i * l.n + k) 0) -ℤ pos
-    (l.scale * count_in l.base l.aboves l.tops k)) l.initial.out l.out l.j
-
-abbrev pub decreases-loop-j : goal.decreases-loop-j
-decreases-loop-j l = l.n - l.j
+invariant-loop-j g l =
+    let o = l.row.order.now in
+    RowWritten o.n (at o.leaves l.row.place) (gap_of g.row.SCALE o l.row.place l.cells) l.initial.out l.out l.j

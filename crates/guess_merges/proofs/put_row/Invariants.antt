@@ -4,7 +4,4 @@ use Rattle.guess_merges.specs.inner.Blocks.{RowPut}
 use Rattle.guess_merges.proofs.put_row.Given as goal
 
 abbrev pub invariant-loop-y : goal.invariant-loop-y
-invariant-loop-y l = (l.y ≤ l.n) × RowPut l.n l.label l.m l.x l.b l.e l.y l.initial.own l.own
-
-abbrev pub decreases-loop-y : goal.decreases-loop-y
-decreases-loop-y l = l.n - l.y
+invariant-loop-y l = (l.y ≤ l.n) × RowPut l.n l.arrays.label l.arrays.m l.x l.b l.e l.y l.initial.own l.own

@@ -4,7 +4,4 @@ use Rattle.guess_merges.specs.inner.Blocks.{BlockPut}
 use Rattle.guess_merges.proofs.put_rows.Given as goal
 
 abbrev pub invariant-loop-x : goal.invariant-loop-x
-invariant-loop-x l = (l.x ≤ l.n) × BlockPut l.n l.label l.m l.a l.b l.e l.x l.initial.own l.own
-
-abbrev pub decreases-loop-x : goal.decreases-loop-x
-decreases-loop-x l = l.n - l.x
+invariant-loop-x l = (l.x ≤ l.n) × BlockPut l.n l.arrays.label l.arrays.m l.a l.b l.e l.x l.initial.own l.own

@@ -1,8 +1,7 @@
 -- `guess_trees::guess_tree` meets its contract: what is handed on to be measured is the listing that was written.
-use mathlib.Core.Path.{◌≡◌, sym, ap, ◌∙◌}
+use mathlib.Core.Path.{◌≡◌, ap, ◌∙◌}
 use Prim.Native.Nat.{◌-◌, ◌*◌}
-use native.Mathlib.Omega.{arith}
-use lib.ListN.{length, take}
+use lib.ListN.{take}
 use Rattle.limits.specs.Limits.{scale_of}
 use Rattle.limits.proofs.TableKinds.{leaf_count_of}
 use Rattle.trees.specs.Listings.{tree_of}
@@ -21,14 +20,6 @@ part c =
     let a = c.args in
     ap (take (2 * (a.n - 2))) c.write_listing.ensures
     ∙ out_front a.kind a.n a.table.now c.requires.0 c.requires.1 a.out.now c.requires.2
-
-pub overflow_sub-numbers : goal.overflow_sub-numbers
-overflow_sub-numbers c = omega (arith, leaf_count_of c.args.kind c.args.n c.requires.0)
-
-pub slice_bounds-total_gap-end-2 : goal.slice_bounds-total_gap-end-2
-slice_bounds-total_gap-end-2 c =
-    let keeps = listing_keeps c.args.kind c.args.n c.args.table.now c.requires.0 c.requires.1 in
-    sym (ap length (part (goal.at.slice_bounds-total_gap-end-2 c).After-write_listing) ∙ keeps.numbers)
 
 pub total_gap-requires : goal.total_gap-requires
 total_gap-requires c = (

@@ -18,15 +18,18 @@ given c =
 pub find_partners-requires : goal.find_partners-requires
 find_partners-requires c =
     let g = (given (goal.at.find_partners-requires c).After-scaled_counts-p).1 in
-    let r = start_search g c.own_numbers.ensures c.start.ensures in
-    (r.0, refl, r.1)
+    let arrays = c.single-arrays.ensures in
+    let r = start_search g arrays.label c.start.ensures in
+    (rw arrays.sizes r.0, refl, r.1)
 
 pub merge_by_means-requires : goal.merge_by_means-requires
 merge_by_means-requires c =
-    let g = (given (goal.at.merge_by_means-requires c).After-scaled_counts-p).1 in (
+    let g = (given (goal.at.merge_by_means-requires c).After-scaled_counts-p).1 in
+    let arrays = c.single-arrays.ensures in
+    let found = c.find_partners.ensures in (
       g,
-      guess_start g c.own_numbers.ensures c.start.ensures c.find_partners.ensures.0
-          c.find_partners.ensures.1 c.requires.2,
+      rw (arrays.m, arrays.sizes) (guess_start g arrays.label c.start.ensures found.0
+          (rw arrays.sizes at found.1) c.requires.2),
     )
 
 pub returns : goal.returns

@@ -1,43 +1,32 @@
 -- `guesses::guess_sheet` meets its contract: what is refused is told, and else `guess_checked_sheet` decides.
-use mathlib.Core.Path.{◌≡◌}
-use mathlib.Core.Option.{none}
-use Prim.Native.Nat.{◌-◌, ◌*◌}
-use lib.ListN.{length}
-use Rattle.refusals.proofs.Answers.{call_passed}
-use Rattle.sheet_rules.specs.Sheets.{leaves_of}
-use Rattle.sheet_rules.specs.Operations.{sheet_refusal}
+use Rattle.name_checks.proofs.Tells.{tells_none, tells_this, tells_some}
+use Rattle.sheets.proofs.Judged.{accepted_here}
 use Rattle.guess_answers.specs.Operations.{sheet_reply, sheet_guess_answer, sheet_guess_listing}
 use Rattle.guess_answers.proofs.Promises.{reply_gives, sheet_guess_meaning}
 use Rattle.guesses.specs.Outcomes.{guess_outcome}
-use Rattle.guesses.proofs.Told.{tells_on, tells_stop}
-use Rattle.guesses.proofs.guess_sheet.Goals.{In_default}
+use Rattle.guesses.proofs.Told.{tells_on, tells_hands}
 use Rattle.guesses.proofs.guess_sheet.Goals as goal
-
--- nothing was refused
-passed :
-    (c : In_default)
-    → let a = c.args in
-    let S = a.sheet.now in
-    sheet_refusal S (2 * (leaves_of S - 2)) (length a.out.now) ≡ none
-passed c = call_passed _ c.judge_rows-judged.ensures c.in_default.is
 
 pub guess_checked_sheet-requires : goal.guess_checked_sheet-requires
 guess_checked_sheet-requires c =
-    (c.figures_of-figures.ensures, passed (goal.at.guess_checked_sheet-requires c).In_default)
+    let told = c.judge_rows.ensures in
+    rw (tells_this _ _ told c.in_ok-judged.was)
+    (accepted_here _ _ _ (tells_none _ _ told c.in_ok-judged.was)).room_enough
 
-pub returns-in_default : goal.returns-in_default
+pub returns-in_err-judged : goal.returns-in_err-judged
 unfolding sheet_guess_answer sheet_guess_listing
-returns-in_default c =
-    let told = c.guess_checked_sheet.ensures in
-    let none = passed (goal.at.returns-in_default c).In_default in
-    let both = tells_on _ _ _ none (told.answer, told.buffer) in
-    let all = reply_gives guess_outcome _ _ (sheet_guess_meaning _ _) both in
+returns-in_err-judged c =
+    let a = c.args in
+    let arises = tells_some _ _ c.judge_rows.ensures c.in_err-judged.was in
+    let told = tells_hands _ (sheet_reply a.sheet.now) a.out.now arises c.from_residual.ensures in
+    let all = reply_gives guess_outcome _ _ (sheet_guess_meaning _ _) told in
     record { answer = all.0; buffer = all.1.0; meaning = all.1.1 }
 
 pub returns : goal.returns
 unfolding sheet_guess_answer sheet_guess_listing
 returns c =
-    let a = c.args in
-    let told = tells_stop _ (sheet_reply a.sheet.now) a.out.now c.judge_rows-judged.ensures c.in-Refused.is in
-    let all = reply_gives guess_outcome _ _ (sheet_guess_meaning _ _) told in
+    let told = c.judge_rows.ensures in
+    let made = rw (tells_this _ _ told c.in_ok-judged.was) at c.guess_checked_sheet.ensures in
+    let both = tells_on _ _ _ (tells_none _ _ told c.in_ok-judged.was) (made.found, made.buffer) in
+    let all = reply_gives guess_outcome _ _ (sheet_guess_meaning _ _) both in
     record { answer = all.0; buffer = all.1.0; meaning = all.1.1 }

@@ -1,22 +1,16 @@
 -- `guided_rebuild::propose` meets its contract: the leaves name the subtrees that their labels stand for.
+use mathlib.Core.Path.{refl}
 use native.Mathlib.Omega.{arith}
 use Rattle.guided_rebuild.proofs.Proposals.{proposal_refused, labels_of, proposed_move}
 use Rattle.guided_rebuild.proofs.propose.Goals as goal
 
 pub returns-then-n-i : goal.returns-then-n-i
-returns-then-n-i c = proposal_refused (λ S s e. omega (arith, e.left, c.if-n-i.true))
-
-pub returns-then-n-j : goal.returns-then-n-j
-returns-then-n-j c = proposal_refused (λ S s e. omega (arith, e.right, c.if-n-j.true))
+returns-then-n-i c = proposal_refused (λ S s e. omega (arith, e.left, e.right, c.then-n-i.either))
 
 pub try_merge-requires : goal.try_merge-requires
 try_merge-requires c =
-    labels_of c.requires.0 c.requires.1 c.if-n-i.false c.if-n-j.false
-    c.index_of_u32-a.ensures
-    c.index_of_u32-b.ensures
+    labels_of c.requires.0 c.requires.1 c.if-n-i.false c.if-n-j.false refl refl
 
 pub returns : goal.returns
 returns c =
-    proposed_move c.requires.0 c.requires.1 c.if-n-i.false c.if-n-j.false
-    c.index_of_u32-a.ensures
-    c.index_of_u32-b.ensures c.try_merge.ensures
+    proposed_move c.requires.0 c.requires.1 c.if-n-i.false c.if-n-j.false refl refl c.try_merge.ensures

@@ -1,6 +1,5 @@
 -- The guided rebuild: what its arrays stand for, and what is said of a proposal. No public contract cites it.
-use Rattle.std.specs.Prelude.{◌≡◌, Bool, true, List, ℕ, ◌-◌, ◌*◌, ◌≤◌, ◌<◌, length, get_or, drop}
-use Rattle.std.proofs.Math.Option.{none, some}
+use Rattle.std.specs.Prelude.{◌≡◌, Bool, true, List, ℕ, ◌-◌, ◌*◌, ◌<◌, length, get_or, drop}
 use Rattle.trees.specs.Tables.{cell}
 use Rattle.merging.specs.Merging.{State, start, eligible, step}
 use Rattle.merging.specs.Rebuilds.{stop_at}
@@ -34,11 +33,6 @@ pub record Proposed (n s : ℕ) (table label m sizes label' m' sizes' : List ℕ
   pub merged :
       r ≡ true → (S : State) → HoldsReached n s table label m sizes S
       → HoldsReached n s table label' m' sizes' (step S i j)
-
--- k is the first proposal that names no eligible pair, or n − 1 where there is none
-pub record Stopped (n s : ℕ) (table merges : List ℕ) (k : ℕ) : Type 0 where
-  pub refused : k < n - 1 → stop_at 0 n s table start (proposals merges) ≡ some k
-  pub accepted : n - 1 ≤ k → stop_at 0 n s table start (proposals merges) ≡ none
 
 -- after k proposals the arrays hold a state, from which the rest goes on as the whole list does from the start
 pub record StepsAccepted (n s : ℕ) (table merges label m sizes : List ℕ) (k : ℕ) : Type 0 where

@@ -55,8 +55,3 @@ pub record LeavesMerged (n s : ℕ) (table label m sizes names rows : List ℕ) 
   pub state : State
   pub forest : ArraysAfter n s table label m sizes names rows r state
   pub done : NoneEligible n s table t state
-
--- when those of all leaves but 0 have been merged
-pub record AllMerged (n s : ℕ) (table label m sizes names rows : List ℕ) : Type 0 where
-  pub many : ℕ
-  pub all_merged : LeavesMerged n s table label m sizes names rows many 1

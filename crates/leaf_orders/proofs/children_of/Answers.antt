@@ -4,7 +4,7 @@ use native.Mathlib.Omega.{arith}
 use lib.ListN.{get_or}
 use Rattle.limits.specs.Limits.{most_leaves}
 use Rattle.pair_counts.specs.Pairs.{P}
-use Rattle.leaf_orders.specs.inner.Orders.{most_sum}
+use Rattle.leaf_orders.specs.inner.LeafOrders.{most_sum}
 use Rattle.leaf_orders.proofs.Rows.{SizesRead, sizes_read, pairs_small, told}
 use Rattle.leaf_orders.proofs.children_of.Goals.{After-row_at-r}
 use Rattle.leaf_orders.proofs.children_of.Goals as goal
@@ -14,7 +14,7 @@ known :
     (c : After-row_at-r)
     → (let a = c.args in
     let r = c.row_at-r.result in
-    SizesRead a.n a.listing.now a.sizes.now a.c a.above c.requires.0 c.requires.1 c.requires.2 c.requires.3
+    SizesRead a.n a.listing.now a.sizes.now a.c a.at c.requires.0 c.requires.1 c.requires.2 c.requires.3
     r (get_or a.sizes.now r.first 0) (get_or a.sizes.now r.second 0) × (a.n ≤ most_leaves)
     × (P a.n ≤ most_sum))
 known c = (
@@ -23,17 +23,17 @@ known c = (
   pairs_small c.args.n c.requires.0.leaf_count.1,
 )
 
-pub offset_bounds-sizes-first : goal.offset_bounds-sizes-first
-offset_bounds-sizes-first c = omega (arith, known c)
+pub offset_bounds-sizes-r : goal.offset_bounds-sizes-r
+offset_bounds-sizes-r c = omega (arith, known c)
 
-pub bounds-sizes-first : goal.bounds-sizes-first
-bounds-sizes-first c = omega (arith, known (goal.at.bounds-sizes-first c).After-row_at-r)
+pub bounds-sizes-r : goal.bounds-sizes-r
+bounds-sizes-r c = omega (arith, known (goal.at.bounds-sizes-r c).After-row_at-r)
 
-pub offset_bounds-sizes-second : goal.offset_bounds-sizes-second
-offset_bounds-sizes-second c = omega (arith, known (goal.at.offset_bounds-sizes-second c).After-row_at-r)
+pub offset_bounds-sizes-r-2 : goal.offset_bounds-sizes-r-2
+offset_bounds-sizes-r-2 c = omega (arith, known (goal.at.offset_bounds-sizes-r-2 c).After-row_at-r)
 
-pub bounds-sizes-second : goal.bounds-sizes-second
-bounds-sizes-second c = omega (arith, known (goal.at.bounds-sizes-second c).After-row_at-r)
+pub bounds-sizes-r-2 : goal.bounds-sizes-r-2
+bounds-sizes-r-2 c = omega (arith, known (goal.at.bounds-sizes-r-2 c).After-row_at-r)
 
 pub pairs-requires : goal.pairs-requires
 pairs-requires c = omega (arith, known (goal.at.pairs-requires c).After-row_at-r)
@@ -70,3 +70,6 @@ returns c =
     told _ _ _ _ _ c.requires.0 c.requires.1 c.requires.2 c.requires.3 (known (goal.at.returns c).After-row_at-r).0
     (omega arith) (omega arith)
     (omega arith)
+
+pub overflow_add-result : goal.overflow_add-result
+overflow_add-result c = omega (arith, known (goal.at.overflow_add-result c).After-row_at-r)

@@ -2,18 +2,19 @@
 -- least depth to place p - 1 is that to place p.
 use mathlib.Core.Path.{◌≡◌}
 use mathlib.Core.Logic.{◌⊎◌}
-use Prim.Native.Nat.{ℕ, ◌-◌, ◌<◌}
+use Prim.Native.Nat.{ℕ, ◌<◌}
 use lib.ListN.{length}
 use Rattle.limits.specs.Limits.{most_leaves}
-use Rattle.leaf_orders.specs.inner.Orders.{at}
-use Rattle.least_depths.specs.inner.Depths.{LeastBetween, Before}
+use Rattle.leaf_orders.specs.inner.LeafOrders.{at, LeastBetween}
+use Rattle.least_depths.specs.inner.Depths.{Before}
 use Rattle.least_depths.proofs.move_left.Given as goal
 
-abbrev pub invariant-loop-tops : goal.invariant-loop-tops
-invariant-loop-tops l =
-    (l.t < l.p) × (length l.tops ≡ most_leaves) × LeastBetween l.depths l.t l.p l.low
-    × Before l.order l.depths l.p l.tops l.t
-    × ((s : ℕ) → (s < l.t) ⊎ (l.p < s) → s < l.n → at l.tops (at l.order s) ≡ at l.initial.tops (at l.order s))
+abbrev pub invariant-loop-t : goal.invariant-loop-t
+invariant-loop-t l =
+    (l.t < l.p) × (length l.tops ≡ most_leaves) × LeastBetween l.order.depths l.t l.p l.low
+    × Before l.order.leaves l.order.depths l.p l.tops l.t
+    × ((s : ℕ) → (s < l.t) ⊎ (l.p < s) → s < l.order.n
+    → at l.tops (at l.order.leaves s) ≡ at l.initial.tops (at l.order.leaves s))
 
-abbrev pub decreases-loop-tops : goal.decreases-loop-tops
-decreases-loop-tops l = l.t
+abbrev pub decreases-loop-t : goal.decreases-loop-t
+decreases-loop-t l = l.t

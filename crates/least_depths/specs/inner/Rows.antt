@@ -1,17 +1,15 @@
--- What the functions that write a row of a tree's table, or take it from another, ask and promise, and those that go
--- through the rows in the order of the places.
-use Rattle.std.specs.Prelude.{◌≡◌, List, ℕ, ◌+◌, ◌*◌, ◌/◌, ◌≤◌, ◌<◌, length}
+-- The rows of a tree's table as the crates above go through them: what the functions that write a row or compare it
+-- promise, and those that go through the rows in the order of the places.
+use Rattle.std.specs.Prelude.{◌≡◌, List, ℕ, ◌+◌, ◌*◌, ◌/◌, ◌<◌, length}
 use Rattle.base.specs.Lists.{filled}
-use Rattle.limits.specs.Limits.{most_leaves}
-use Rattle.leaf_orders.specs.inner.Orders.{at}
-use Rattle.least_depths.specs.inner.Depths.{RowFound}
+use Rattle.trees.specs.Listings.{tree_of}
+use Rattle.trees.specs.Quartets.{quartets}
+use Rattle.leaf_orders.specs.declared.LeafOrder.{LeafOrder}
+use Rattle.leaf_orders.specs.inner.LeafOrders.{at}
 
--- row i can be written: there is room, and its counts are found
-pub record TableRowFits (n i base : ℕ) (aboves tops : List ℕ) (room : ℕ) : Type 0 where
-  pub few : n ≤ most_leaves
-  pub row : i < n
-  pub enough : n * n ≤ room
-  pub found : RowFound n base aboves tops
+-- the count in column j of the row of the leaf at place p
+abbrev pub count_of : LeafOrder → (p j : ℕ) → ℕ
+count_of o p j = quartets o.n (tree_of o.n o.listing.now) (at o.leaves p) j
 
 -- j cells of row i are written, `value` in each column: where a rule f of all cells has these values in the row, and
 -- the rows before it were filled by f, these cells are too
@@ -22,5 +20,5 @@ pub record RowWritten {A : Type 0} (n i : ℕ) (value : ℕ → A) (before after
       → after ≡ filled (i * n + j) f l
 
 -- the rows of the leaves at the first p places hold what the rule f says
-pub record RowsHold (n : ℕ) (order : List ℕ) (f : ℕ → ℕ) (cells : List ℕ) (p : ℕ) : Type 0 where
-  pub right : (k q : ℕ) → q < p → k / n ≡ at order q → at cells k ≡ f k
+pub record RowsHold (n : ℕ) (leaves : List ℕ) (f : ℕ → ℕ) (cells : List ℕ) (p : ℕ) : Type 0 where
+  pub right : (k q : ℕ) → q < p → k / n ≡ at leaves q → at cells k ≡ f k

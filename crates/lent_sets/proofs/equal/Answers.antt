@@ -1,52 +1,27 @@
 -- `lent_sets::equal` meets its contract: the lengths are judged, and then the two sets are compared.
-use mathlib.Core.Path.{◌≡◌, ap₂, sym, ◌∙◌}
-use mathlib.Core.Option.{none}
-use lib.ListN.{length}
-use Rattle.refusals.proofs.Answers.{call_passed, refused_some}
-use Rattle.refusals.proofs.Verdicts.{verdict_refused, verdict_yes, verdict_no}
-use Rattle.trees.specs.Splits.{set_of}
-use Rattle.sets.specs.Sets.{same_set}
-use Rattle.lent_sets.specs.Operations.{pair_refusal, equal_answer}
-use Rattle.lent_sets.proofs.LentSets.{pair_fine}
-use Rattle.lent_sets.proofs.equal.Goals.{After-equal, In_default}
+use mathlib.Core.Path.{sym, ◌∙◌}
+use Rattle.refusals.proofs.Returned.{returned_refused, returned_given}
+use Rattle.checks.proofs.Sizes.{value_right, value_wrong}
+use Rattle.lent_sets.specs.Operations.{equal_answer}
+use Rattle.lent_sets.proofs.Pairs.{first_off, second_off, both_fit}
 use Rattle.lent_sets.proofs.equal.Goals as goal
 
-pub returns-in-Refused : goal.returns-in-Refused
+pub returns-in_err-by_value : goal.returns-in_err-by_value
 unfolding equal_answer
-returns-in-Refused c =
-    let judged = c.judge_pair-judged.ensures in
-    verdict_refused _ _ (refused_some _ _ (sym judged ∙ c.in-Refused.is))
+returns-in_err-by_value c =
+    let off = value_wrong _ _ (sym c.in_err-by_value.was ∙ c.by_value.ensures) in
+    returned_refused _ _ (first_off _ _ off) c.from_residual.ensures
 
--- nothing is refused
-fine :
-    (c : In_default)
-    → (let a = c.args in
-    pair_refusal (length a.a.now) (length a.b.now) ≡ none)
-fine c = call_passed _ c.judge_pair-judged.ensures c.in_default.is
-
-pub lent-requires : goal.lent-requires
-lent-requires c = (pair_fine _ _ (fine c)).0
-
-pub lent-requires-2 : goal.lent-requires-2
-lent-requires-2 c = (pair_fine _ _ (fine (goal.at.lent-requires-2 c).In_default)).1
-
--- what is told of the two sets
-told :
-    (c : After-equal)
-    → (let a = c.args in
-    c.equal.result ≡ same_set (set_of a.a.now) (set_of a.b.now))
-told c =
-    c.equal.ensures
-    ∙ ap₂ (λ a b. same_set (set_of a) (set_of b)) c.lent.ensures c.lent-2.ensures
-
-pub returns-then-equal : goal.returns-then-equal
+pub returns-in_err-by_value-2 : goal.returns-in_err-by_value-2
 unfolding equal_answer
-returns-then-equal c =
-    let at = goal.at.returns-then-equal c in
-    verdict_yes _ _ (fine at.In_default) (sym (told at.After-equal) ∙ c.if-equal.true)
+returns-in_err-by_value-2 c =
+    let first = value_right _ _ (sym c.in_ok-by_value.was ∙ c.by_value.ensures) in
+    let off = value_wrong _ _ (sym c.in_err-by_value-2.was ∙ c.by_value-2.ensures) in
+    returned_refused _ _ (second_off _ _ first.0 off) c.from_residual-in_err-by_value-2.ensures
 
 pub returns : goal.returns
 unfolding equal_answer
 returns c =
-    let at = goal.at.returns c in
-    verdict_no _ _ (fine at.In_default) (sym (told at.After-equal) ∙ c.if-equal.false)
+    let first = value_right _ _ (sym c.in_ok-by_value.was ∙ c.by_value.ensures) in
+    let second = value_right _ _ (sym c.in_ok-by_value-2.was ∙ c.by_value-2.ensures) in
+    returned_given _ _ (both_fit _ _ first.0 second.0) (rw (← first.1, ← second.1) c.equal.ensures)

@@ -18,4 +18,4 @@ returns c =
     rw (lt-ltb a.k (length a.listing.now / 2)
     (rw c.row_count.ensures at
     c.if-row_count-k.false))
-    (rw (c.index_of_u16-second.ensures, c.index_of_u16-first.ensures))
+    (rw (c.from-2.ensures, c.from.ensures))

@@ -27,7 +27,7 @@ write_totals-requires c =
     let put = c.standard_rows.ensures in
     let total =
     front_total c.args.kind _ _ _ _ p.0 p.1 p.2 p.3 p.4 _ _ put (2 * c.args.n - 3) in
-    rw c.scale_of-scale.ensures (
+    rw c.scale-scale.ensures (
       given c.args.kind _ _ _ _ p.0 p.1 p.2 p.3 p.4 _ _ put _
           c.scaled_counts-p.ensures,
       p.5,
@@ -38,6 +38,6 @@ pub returns : goal.returns
 returns c =
     let p = c.requires in
     let put = c.standard_rows.ensures in
-    rw c.scale_of-scale.ensures at c.write_totals.ensures
+    rw c.scale-scale.ensures at c.write_totals.ensures
     ∙ ap (λ f. filled (2 * c.args.n - 3) f c.args.out.now)
     (fun_ext (λ k. front_total c.args.kind _ _ _ _ p.0 p.1 p.2 p.3 p.4 _ _ put (k + 1)))

@@ -1,82 +1,85 @@
 -- `name_checks::judge_names` meets its contract: no refusal arises from the names passed so far, and they are
 -- in the index.
-use mathlib.Core.Path.{◌≡◌, ap, sym, ◌∙◌}
-use mathlib.Core.Bool.{true}
-use Prim.Native.Nat.{◌-◌}
+use mathlib.Core.Path.{◌≡◌, sym, ◌∙◌}
+use mathlib.Core.Bool.{true, not}
+use Prim.Native.Nat.{◌≤◌}
 use native.Mathlib.Omega.{arith}
-use Rattle.base.proofs.Lists.{none_not_some}
-use Rattle.refusals.specs.Refusals.{outcome_of}
-use Rattle.sheet_rules.specs.Sheets.{name_at}
-use Rattle.sheet_rules.specs.Operations.{good_at}
+use borrow.Author.Tests.{not-true, not-false}
+use lib.ListN.{length}
+use Rattle.refusals.specs.Refusals.{answered, returned}
+use Rattle.refusals.specs.declared.Refusal.TheVariants.{Name}
+use Rattle.refusals.proofs.Answers.{handed_on}
+use Rattle.sheet_rules.specs.Sheets.{next_name, name_at}
+use Rattle.sheet_rules.specs.Operations.{repeated, good_at}
 use Rattle.sheet_rules.proofs.Names.{start_name, good_ends}
 use Rattle.sheet_rules.proofs.NameRefusals.{passed_none, bad_here, repeated_here, passed_more, rest_here}
 use Rattle.sheet_rules.proofs.NameRefusals.{all_passed}
 use Rattle.name_index.specs.inner.Hashes.{hash_of}
 use Rattle.name_index.proofs.Hashes.{failed_hash, passed_hash}
-use Rattle.name_checks.proofs.judge_names.Goals.{Else-hash-eq-HASHES}
+use Rattle.name_checks.proofs.judge_names.Goals.{In_ok-hash, After-add}
 use Rattle.name_checks.proofs.judge_names.Goals as goal
 
 pub loop-i-init : goal.loop-i-init
-loop-i-init c = (passed_none _ _ _, c.requires.3)
+loop-i-init c = (passed_none _ _ _, c.new-names.ensures)
 
-pub returns-then-hash-eq-HASHES : goal.returns-then-hash-eq-HASHES
-unfolding outcome_of
-returns-then-hash-eq-HASHES c =
-    let bad = failed_hash _ c.name_hash-hash.ensures c.if-hash-eq-HASHES.true in
-    let refused = bad_here c.loop-i.invariant.0 c.loop-i-test.true bad in
-    record { answer = ap outcome_of (sym refused); index = λ e. absurd (none_not_some _ _ refused e) }
+pub returns-in_err-hash : goal.returns-in_err-hash
+unfolding answered returned
+returns-in_err-hash c =
+    let none_found = rw c.in_err-hash.was at c.ok_or.ensures.ok_part in
+    let refusal : c.in_err-hash.field-0.0 ≡ Name c.loop-i.i =
+    (let same = sym c.in_err-hash.was ∙ rw none_found at c.ok_or.ensures.value in cc) in
+    let refused = bad_here c.loop-i.invariant.0 c.loop-i-test.true (failed_hash _ c.name_hash.ensures none_found) in
+    handed_on _ c.from_residual.ensures ∙ rw (refused, refusal)
 
 -- the name is good, and this is its hash
 good :
-    (c : Else-hash-eq-HASHES)
+    (c : In_ok-hash)
     → (let a = c.args in
     let at = c.loop-i.at in
-    (good_at a.sheet.now a.offset at ≡ true)
-    × (c.name_hash-hash.result ≡ hash_of (name_at a.sheet.now at)))
-good c = passed_hash _ c.name_hash-hash.ensures c.if-hash-eq-HASHES.false
+    (good_at a.sheet.now a.offset at ≡ true) × (c.in_ok-hash.hash ≡ hash_of (name_at a.sheet.now at)))
+good c =
+    passed_hash _ c.name_hash.ensures (rw c.in_ok-hash.was at c.ok_or.ensures.ok_part)
 
-pub repeats-requires : goal.repeats-requires
-repeats-requires c =
+ends : (c : In_ok-hash) → (let a = c.args in next_name a.sheet.now c.loop-i.at ≤ length a.sheet.now)
+ends c = omega (arith, good_ends _ _ _ (good c).0)
+
+pub add-requires : goal.add-requires
+add-requires c =
     let l = c.loop-i in
-    let g = good (goal.at.repeats-requires c).Else-hash-eq-HASHES in
-    let ends = good_ends _ _ _ g.0 in
-    let hashed = rw (start_name _ _ l.invariant.0.here) at g.1 in
-    (l.invariant.1, omega arith, l.invariant.0.here, hashed, omega (arith, ends), c.requires.1)
+    let here = (goal.at.add-requires c).In_ok-hash in
+    let hashed = rw (start_name _ _ l.invariant.0.here) at (good here).1 in
+    rw l.invariant.1 (omega arith, l.invariant.0.here, hashed, ends here)
 
-pub returns-then-repeats : goal.returns-then-repeats
-unfolding outcome_of
-returns-then-repeats c =
-    let equal = sym c.repeats.ensures.0 ∙ c.if-repeats.true in
-    let g = good (goal.at.returns-then-repeats c).Else-hash-eq-HASHES in
-    let refused = repeated_here c.loop-i.invariant.0 g.0 c.loop-i-test.true equal in
-    record { answer = ap outcome_of (sym refused); index = λ e. absurd (none_not_some _ _ refused e) }
+-- what `add` says of the name
+new_is : (c : After-add) → (let a = c.args in c.add.result ≡ not (repeated a.sheet.now c.loop-i.i))
+new_is c = rw c.loop-i.invariant.1 at c.add.ensures.0
+
+pub returns-then-not-add : goal.returns-then-not-add
+unfolding answered returned
+returns-then-not-add c =
+    let here = goal.at.returns-then-not-add c in
+    let equal = not-false _ (sym (new_is here.After-add) ∙ c.if-not-add.true) in
+    rw (repeated_here c.loop-i.invariant.0 (good here.In_ok-hash).0 c.loop-i-test.true equal)
 
 pub next_name-at-requires : goal.next_name-at-requires
-next_name-at-requires c =
-    let g = good (goal.at.next_name-at-requires c).Else-hash-eq-HASHES in
-    omega (arith, good_ends _ _ _ g.0)
+next_name-at-requires c = ends (goal.at.next_name-at-requires c).In_ok-hash
 
 pub loop-i-preserved : goal.loop-i-preserved
 loop-i-preserved c =
-    let learnt = c.repeats.ensures in
-    let g = good (goal.at.loop-i-preserved c).Else-hash-eq-HASHES in
-    let new = sym learnt.0 ∙ c.if-repeats.false in (
-      passed_more c.loop-i.invariant.0 g.0 c.loop-i-test.true new c.next_name-at.ensures,
-      learnt.1 new,
+    let here = goal.at.loop-i-preserved c in
+    let new = not-true _ (sym (new_is here.After-add) ∙ c.if-not-add.false) in (
+      passed_more c.loop-i.invariant.0 (good here.In_ok-hash).0 c.loop-i-test.true new c.next_name-at.ensures,
+      rw (c.loop-i.invariant.1, c.if-not-add.false) at c.add.ensures.1,
     )
 
 pub returns-then-at-offset : goal.returns-then-at-offset
-unfolding outcome_of
+unfolding answered returned
 returns-then-at-offset c =
-    let refused = rest_here c.loop-i.invariant.0 c.loop-i-test.false c.if-at-offset.true in
-    record { answer = ap outcome_of (sym refused); index = λ e. absurd (none_not_some _ _ refused e) }
+    rw (rest_here c.loop-i.invariant.0 c.loop-i-test.false c.if-at-offset.true)
 
 pub returns : goal.returns
-unfolding outcome_of
+unfolding answered returned
 returns c =
     let inv = c.loop-i.invariant in
     let passed : c.loop-i.i ≡ c.args.n = omega (arith, inv.0.within) in
-    record {
-      answer = ap outcome_of (sym (all_passed inv.0 c.loop-i-test.false c.if-at-offset.false));
-      index = λ _. rw passed at inv.1;
-    }
+    rw (all_passed inv.0 c.loop-i-test.false c.if-at-offset.false, inv.1, passed)

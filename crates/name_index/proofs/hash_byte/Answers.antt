@@ -6,4 +6,4 @@ use Rattle.name_index.proofs.hash_byte.Goals as goal
 
 pub returns : goal.returns
 unfolding hash_step
-returns c = (rw c.wide.ensures.0, mod-lt _ (omega arith))
+returns c = (rw c.from.ensures, mod-lt _ (omega arith))

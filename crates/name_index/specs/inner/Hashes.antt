@@ -1,6 +1,6 @@
 -- The hash of some bytes, by which names are looked up, and the bucket that it stands for. No operation's contract
 -- cites it.
-use Rattle.std.specs.Prelude.{Bool, cond, List, [], ◌∷◌, ℕ, ◌+◌, ◌*◌, ◌%◌}
+use Rattle.std.specs.Prelude.{Bool, cond, List, [], ◌∷◌, ℕ, ◌+◌, ◌*◌, ◌%◌, Option, Some, None}
 use Rattle.limits.specs.Limits.{most_leaves}
 
 -- how many hashes there are
@@ -19,9 +19,9 @@ hash_from h (b ∷ x) = hash_from (hash_step h b) x
 abbrev pub hash_of : List ℕ → ℕ
 hash_of x = hash_from 0 x
 
--- the hash of bytes that pass a test, and else the number of hashes, which is none
-unfoldable pub hash_where : Bool → List ℕ → ℕ
-hash_where pass x = cond pass (hash_of x) hashes
+-- the hash of bytes that pass a test
+unfoldable pub hash_if : Bool → List ℕ → Option ℕ
+hash_if pass x = cond pass (Some (hash_of x)) None
 
 -- two buckets a leaf, so that most hold one name at most
 abbrev pub buckets : ℕ

@@ -21,38 +21,12 @@ early c =
     let l = c.if-a-i.false in
     omega arith
 
-both :
-    (c : Else-a-i)
-    → let a = c.args in
-    TwoLabels a.n a.label.now a.i a.a × TwoLabels a.n a.label.now a.i a.old
-both c =
-    let d = fresh c in (
-      new_two c.requires.0 c.requires.1 c.requires.2 c.requires.4 c.requires.5 (early c) d.1 d.2,
-      old_two c.requires.0 c.requires.1 c.requires.2 c.requires.4 c.requires.5 (early c) d.1 d.2,
-    )
-
-pub returns-then-a-i : goal.returns-then-a-i
-returns-then-a-i c =
-    c.requires.5.between c.if-a-i.true
-    (c.is_stale.ensures c.if-is_stale.false).2
-
-pub nearer_of_two-requires : goal.nearer_of_two-requires
-nearer_of_two-requires c =
-    let t = both (goal.at.nearer_of_two-requires c).Else-a-i in
-    (c.requires.0, t.1, t.0, c.if-old-a.true)
-
 pub returns-then-old-a : goal.returns-then-old-a
 returns-then-old-a c =
     let d = fresh (goal.at.returns-then-old-a c).Else-a-i in
     renewed_up c.requires.0 c.requires.1 c.requires.2 c.requires.4 c.requires.5
     (early (goal.at.returns-then-old-a c).Else-a-i) d.1 d.2
     c.nearer_of_two.ensures
-
-pub nearer_of_two-requires-2 : goal.nearer_of_two-requires-2
-nearer_of_two-requires-2 c =
-    let t = both (goal.at.nearer_of_two-requires-2 c).Else-a-i in
-    let apart = (fresh (goal.at.nearer_of_two-requires-2 c).Else-a-i).1 in
-    (c.requires.0, t.0, t.1, omega arith)
 
 pub returns : goal.returns
 returns c =

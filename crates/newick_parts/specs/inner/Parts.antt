@@ -3,7 +3,7 @@ use Rattle.std.specs.Prelude.{◌≡◌, ◌≢◌, Bool, false, cond, List, ◌
 use Rattle.std.proofs.Math.Option.{Option, none, some}
 use Rattle.limits.specs.Limits.{most_leaves, IsLeafCount}
 use Rattle.sheet_rules.specs.Sheets.{between}
-use Rattle.rerooted_rows.specs.declared.Joined.{Joined}
+use Rattle.rerooted_rows.specs.declared.Rerooting.{Rerooting}
 use Rattle.rerooted_rows.specs.inner.Arrays.{JoinFits, Joins}
 use Rattle.newick_rules.specs.Drawings.{Drawing, bracket}
 use Rattle.newick_rules.specs.Reader.{Open, with_part, Place}
@@ -13,32 +13,29 @@ use Rattle.newick_parts.specs.declared.Kept.{Kept}
 use Rattle.newick_parts.specs.inner.Keeping.{KeptAt}
 
 -- One more part is joined to those of the bracket at this place, which has c so far.
-pub record PartFits (n place c : ℕ) (K : Kept) (numbers rows chain : List ℕ) : Type 0 where
+pub record PartFits (n place c : ℕ) (K : Kept) : Type 0 where
   pub inside : place < most_leaves
-  pub numbers_long : length numbers ≡ most_leaves
-  pub joint : c ≢ 0 → JoinFits n (get_or numbers place 0) K.last K.rows K.chained rows chain
+  pub numbers_long : length K.numbers ≡ most_leaves
+  pub joint : c ≢ 0 → JoinFits n (get_or K.numbers place 0) K.last K.joined
 
--- what is kept then, where two subtrees are joined
-abbrev pub joined_kept : Kept → Joined → Kept
-joined_kept K J = record {
+-- what is kept then, with the number of the parts
+abbrev pub part_kept : Kept → (place number : ℕ) → Rerooting → Kept
+part_kept K place number R = record {
   last = K.last;
   binary = K.binary;
   named = K.named;
   many = K.many;
-  rows = J.rows;
-  chained = J.chained;
+  parts = K.parts;
+  numbers = set K.numbers place number;
+  joined = R;
 }
 
-pub record PartMade (n place c : ℕ) (K : Kept) (numbers rows chain : List ℕ) (K' : Kept)
-    (numbers' rows' chain' : List ℕ) : Type 0 where
-  pub first :
-      c ≡ 0 → (K' ≡ K) × (numbers' ≡ set numbers place K.last) × (rows' ≡ rows) × (chain' ≡ chain)
+pub record PartMade (n place c : ℕ) (K K' : Kept) : Type 0 where
+  pub first : c ≡ 0 → K' ≡ part_kept K place K.last K.joined
   pub more :
       c ≢ 0
-      → (J : Joined)
-      × Joins n (get_or numbers place 0) K.last K.rows K.chained rows chain rows' chain' J
-      × (numbers' ≡ set numbers place J.number)
-      × (K' ≡ joined_kept K J)
+      → (R : Rerooting) × (number : ℕ) × Joins n (get_or K.numbers place 0) K.last K.joined R number
+      × (K' ≡ part_kept K place number R)
 
 -- a bracket at a place, with c parts so far, may have one more and another behind it: the top, at place 0, three at
 -- most, any other two
@@ -50,14 +47,15 @@ abbrev pub closes_at : (place c : ℕ) → Bool
 closes_at place c = cond (eqb place 0) (between 1 2 c) (eqb c 1)
 
 -- what is kept where a node is not binary
-unfoldable pub unfit_kept : Kept → Kept
+abbrev pub unfit_kept : Kept → Kept
 unfit_kept K = record {
   last = K.last;
   binary = false;
   named = K.named;
   many = K.many;
-  rows = K.rows;
-  chained = K.chained;
+  parts = K.parts;
+  numbers = K.numbers;
+  joined = K.joined;
 }
 
 -- what is kept where a bracket closes, with the number of its parts
@@ -67,12 +65,25 @@ closed_kept K number = record {
   binary = K.binary;
   named = K.named;
   many = K.many;
-  rows = K.rows;
-  chained = K.chained;
+  parts = K.parts;
+  numbers = K.numbers;
+  joined = K.joined;
+}
+
+-- what is kept with other parts of the open brackets
+abbrev pub with_parts : Kept → List ℕ → Kept
+with_parts K parts = record {
+  last = K.last;
+  binary = K.binary;
+  named = K.named;
+  many = K.many;
+  parts = parts;
+  numbers = K.numbers;
+  joined = K.joined;
 }
 
 -- a part ends: some bracket is open, and some drawing is its next part
-pub record PartEnds (n depth : ℕ) (K : Kept) (parts numbers rows chain : List ℕ) : Type 0 where
+pub record PartEnds (n depth : ℕ) (K : Kept) : Type 0 where
   pub count : IsLeafCount n
   pub shallow : depth ≤ most_leaves
   pub known : List (List ℕ)
@@ -81,10 +92,10 @@ pub record PartEnds (n depth : ℕ) (K : Kept) (parts numbers rows chain : List 
   pub drawing : Drawing
   pub seen : ℕ → Bool
   pub depth_is : depth ≡ suc (length opens)
-  pub kept : KeptAt known n (innermost ∷ opens) (some drawing) K parts numbers rows chain seen
+  pub kept : KeptAt known n (innermost ∷ opens) (some drawing) K seen
 
 -- a byte comes that keeps the grammar, where some brackets are open
-pub record Comes (b n depth : ℕ) (K : Kept) (parts numbers rows chain : List ℕ) : Type 0 where
+pub record Comes (b n depth : ℕ) (K : Kept) : Type 0 where
   pub count : IsLeafCount n
   pub shallow : depth < most_leaves
   pub known : List (List ℕ)
@@ -93,30 +104,21 @@ pub record Comes (b n depth : ℕ) (K : Kept) (parts numbers rows chain : List �
   pub next : Place
   pub seen : ℕ → Bool
   pub depth_is : depth ≡ length opens
-  pub kept : KeptAt known n opens last K parts numbers rows chain seen
+  pub kept : KeptAt known n opens last K seen
   pub moved : Moved deepest b opens last next
 
 -- Whatever is kept before is kept after: a part of the innermost bracket, that bracket closed, any byte.
-abbrev pub PartAdded :
-    (n depth : ℕ) (K : Kept) (parts numbers rows chain : List ℕ) (K' : Kept) (parts' numbers' rows' chain' : List ℕ)
-    → Type 0
-PartAdded n depth K parts numbers rows chain K' parts' numbers' rows' chain' =
+abbrev pub PartAdded : (n depth : ℕ) (K K' : Kept) → Type 0
+PartAdded n depth K K' =
     (known : List (List ℕ)) (o : Open) (s : List Open) (d : Drawing) (seen : ℕ → Bool) → depth ≡ suc (length s)
-    → KeptAt known n (o ∷ s) (some d) K parts numbers rows chain seen
-    → KeptAt known n (some (with_part o d) ∷ s) none K' parts' numbers' rows' chain' seen
+    → KeptAt known n (o ∷ s) (some d) K seen → KeptAt known n (some (with_part o d) ∷ s) none K' seen
 
-abbrev pub BracketClosed :
-    (n depth : ℕ) (K : Kept) (parts numbers rows chain : List ℕ) (K' : Kept) (numbers' rows' chain' : List ℕ)
-    → Type 0
-BracketClosed n depth K parts numbers rows chain K' numbers' rows' chain' =
+abbrev pub BracketClosed : (n depth : ℕ) (K K' : Kept) → Type 0
+BracketClosed n depth K K' =
     (known : List (List ℕ)) (o : Open) (s : List Open) (d : Drawing) (seen : ℕ → Bool) → depth ≡ suc (length s)
-    → KeptAt known n (o ∷ s) (some d) K parts numbers rows chain seen
-    → KeptAt known n s (some (bracket (with_part o d))) K' parts numbers' rows' chain' seen
+    → KeptAt known n (o ∷ s) (some d) K seen → KeptAt known n s (some (bracket (with_part o d))) K' seen
 
-abbrev pub Came :
-    (b n depth : ℕ) (K : Kept) (parts numbers rows chain : List ℕ) (K' : Kept) (parts' numbers' rows' chain' : List ℕ)
-    → Type 0
-Came b n depth K parts numbers rows chain K' parts' numbers' rows' chain' =
+abbrev pub Came : (b n depth : ℕ) (K K' : Kept) → Type 0
+Came b n depth K K' =
     (known : List (List ℕ)) (s : List Open) (d : Option Drawing) (Q : Place) (seen : ℕ → Bool) → depth ≡ length s
-    → KeptAt known n s d K parts numbers rows chain seen → Moved deepest b s d Q
-    → KeptAt known n (opens_of Q) (last_of Q) K' parts' numbers' rows' chain' seen
+    → KeptAt known n s d K seen → Moved deepest b s d Q → KeptAt known n (opens_of Q) (last_of Q) K' seen

@@ -50,7 +50,7 @@ last_after (ended d) after = some d
 -- The state behind a byte, by the state before it and how many brackets are open.
 
 -- behind a byte that ends a drawing
-unfoldable pub closed_state : (depth b : ℕ) → ℕ
+abbrev pub closed_state : (depth b : ℕ) → ℕ
 closed_state depth b =
     cond (eqb depth 0) (cond (eqb b semicolon) 6 7) (cond (eqb b comma) 0 (cond (eqb b closing) 2 7))
 

@@ -1,6 +1,7 @@
 -- `newick_runs::skip` meets its contract: the bytes before j all leave the reader where it is.
-use mathlib.Core.Path.{sym, ◌∙◌}
-use Prim.Native.Nat.{◌-◌}
+use mathlib.Core.Path.{◌≡◌, sym, ◌∙◌}
+use native.Mathlib.Omega.{arith}
+use lib.ListN.{length}
 use Rattle.newick_runs.proofs.Runs.{passed_none, passed_more}
 use Rattle.newick_runs.proofs.skip.Goals as goal
 
@@ -16,4 +17,6 @@ loop-j-preserved c =
     (sym c.keeps_state.ensures ∙ c.if-not-keeps_state.false)
 
 pub returns : goal.returns
-returns c = c.loop-j.invariant
+returns c =
+    let end : c.loop-j.j ≡ length c.args.text.now = omega (arith, c.loop-j-test.false, c.loop-j.invariant.high) in
+    rw end at c.loop-j.invariant

@@ -1,6 +1,7 @@
 -- `newick_runs::skip_name` meets its contract: the bytes before j are a name's, and h is its hash behind them.
-use mathlib.Core.Path.{sym, ◌∙◌}
-use Prim.Native.Nat.{◌-◌}
+use mathlib.Core.Path.{◌≡◌, sym, ◌∙◌}
+use native.Mathlib.Omega.{arith}
+use lib.ListN.{length}
 use Rattle.newick_runs.proofs.Runs.{named_none, named_more}
 use Rattle.newick_runs.proofs.skip_name.Goals as goal
 
@@ -20,4 +21,7 @@ loop-j-preserved c =
     (sym c.is_name_byte.ensures ∙ c.if-not-is_name_byte.false) _ h.0 h.1
 
 pub returns : goal.returns
-returns c = c.loop-j.invariant
+returns c =
+    let inv = c.loop-j.invariant in
+    let end : c.loop-j.j ≡ length c.args.text.now = omega (arith, c.loop-j-test.false, inv.passed.high) in
+    rw end at inv

@@ -6,6 +6,3 @@ use Rattle.newick_runs.proofs.skip_name.Given as goal
 
 abbrev pub invariant-loop-j : goal.invariant-loop-j
 invariant-loop-j l = Named l.text l.k l.hash (record { to = l.j; hash = l.h })
-
-abbrev pub decreases-loop-j : goal.decreases-loop-j
-decreases-loop-j l = length l.text - l.j

@@ -5,14 +5,15 @@ use lib.ListN.{length}
 use Rattle.limits.specs.Limits.{IsLeafCount}
 use Rattle.sheet_rules.specs.Sheets.{names_of}
 use Rattle.newick_rules.specs.Operations.{Strains}
+use Rattle.newick_states.specs.inner.States.{number_of}
 use Rattle.newick_text.specs.inner.Names.{Indexed}
 use Rattle.newick_text.specs.inner.Texts.{ReadTo}
 use Rattle.newick_text.proofs.read_text.Given as goal
 
 abbrev pub invariant-loop-k : goal.invariant-loop-k
 invariant-loop-k l =
-    Indexed l.sheet l.n l.heads l.before l.starts × IsLeafCount l.n × Strains l.n (names_of l.sheet)
-    × ReadTo l.sheet l.text l.n l.state l.depth l.from l.hash l.k l.kept l.parts l.numbers l.seen l.rows l.chain
+    Indexed l.names × IsLeafCount l.n × Strains l.n (names_of l.names.sheet)
+    × ReadTo l.names.sheet l.text l.n (number_of l.state) l.depth l.from l.hash l.k l.kept l.seen
 
 abbrev pub decreases-loop-k : goal.decreases-loop-k
 decreases-loop-k l =

@@ -3,7 +3,7 @@ use Rattle.std.specs.Prelude.{◌≡◌, ◌≢◌, Bool, true, false, List, ℕ
 use Rattle.limits.specs.Limits.{most_leaves}
 use Rattle.sheet_rules.specs.Sheets.{leaves_of, leaf_named}
 use Rattle.name_index.specs.inner.Hashes.{hash_of}
-use Rattle.name_index.specs.inner.Indexes.{Indexes}
+use Rattle.name_index.specs.inner.Indexes.{FirstNames}
 use Rattle.newick_parts.specs.declared.Kept.{Kept}
 
 -- so many bytes of a text, from a place on
@@ -15,39 +15,38 @@ abbrev pub flags : List Bool → ℕ → Bool
 flags seen i = get_or seen i false
 
 -- what is kept where a name is not known or stands twice
-unfoldable pub misnamed_kept : Kept → Kept
+abbrev pub misnamed_kept : Kept → Kept
 misnamed_kept K = record {
   last = K.last;
   binary = K.binary;
   named = false;
   many = K.many;
-  rows = K.rows;
-  chained = K.chained;
+  parts = K.parts;
+  numbers = K.numbers;
+  joined = K.joined;
 }
 
 -- and where it is a leaf's that was not named before
-unfoldable pub named_kept : Kept → ℕ → Kept
+abbrev pub named_kept : Kept → ℕ → Kept
 named_kept K i = record {
   last = i;
   binary = K.binary;
   named = K.named;
   many = K.many + 1;
-  rows = K.rows;
-  chained = K.chained;
+  parts = K.parts;
+  numbers = K.numbers;
+  joined = K.joined;
 }
 
--- a sheet of n strains, whose names the index has
-pub record Indexed (S : List ℕ) (n : ℕ) (heads before starts : List ℕ) : Type 0 where
-  pub leaves : n ≡ leaves_of S
-  pub index : Indexes S n heads before starts
+-- an index has the names of a whole sheet
+abbrev pub Indexed : FirstNames → Type 0
+Indexed x = x.many ≡ leaves_of x.sheet
 
--- the name that ends at byte k may be taken
-pub record NameFits (S : List ℕ) (n : ℕ) (heads before starts t : List ℕ) (from k hash : ℕ) (K : Kept)
-    (seen : List Bool) : Type 0 where
-  pub indexed : Indexed S n heads before starts
-  pub from_in : from ≤ k
-  pub within : k ≤ length t
-  pub hash_is : hash ≡ hash_of (word_at t from k)
+-- a name may be taken
+pub record NameFits (x : FirstNames) (w : List ℕ) (hash : ℕ) (K : Kept) (seen : List Bool) : Type 0 where
+  pub indexed : Indexed x
+  pub few : x.many ≤ most_leaves
+  pub hash_is : hash ≡ hash_of w
   pub many_low : K.named ≡ true → K.many ≤ most_leaves
   pub seen_long : length seen ≡ most_leaves
 
@@ -64,9 +63,10 @@ pub record NameTaken (known : List (List ℕ)) (n : ℕ) (x : List ℕ) (K : Kep
       → (K' ≡ named_kept K (leaf_named known x)) × (seen' ≡ set seen (leaf_named known x) true)
 
 -- between two states: a name ends where the first is in one and the second is not
-pub record NameMayEnd (S : List ℕ) (n : ℕ) (heads before starts t : List ℕ) (state from k hash : ℕ) (K : Kept)
-    (seen : List Bool) : Type 0 where
-  pub fits : state ≡ 1 → NameFits S n heads before starts t from k hash K seen
+pub record NameMayEnd (x : FirstNames) (t : List ℕ) (state from k hash : ℕ) (K : Kept) (seen : List Bool) : Type 0 where
+  pub from_in : state ≡ 1 → from ≤ k
+  pub within : state ≡ 1 → k ≤ length t
+  pub fits : state ≡ 1 → NameFits x (word_at t from k) hash K seen
 
 pub record NameEnded (known : List (List ℕ)) (n : ℕ) (x : List ℕ) (state after : ℕ) (K : Kept) (seen : List Bool)
     (K' : Kept) (seen' : List Bool) : Type 0 where

@@ -1,56 +1,44 @@
 -- `newick_writing::put_name` meets its contract: the name stands behind its length byte.
 use mathlib.Core.Path.{◌≡◌, sym, ap, ◌∙◌}
-use Prim.Native.Nat.{◌≤◌}
+use Prim.Native.Nat.{◌+◌, ◌-◌, ◌≤◌}
 use native.Mathlib.Omega.{arith}
-use lib.ListN.{length, get_or}
+use lib.ListN.{length}
 use Rattle.sheet_rules.specs.Sheets.{name_at, next_name, name_start, name}
 use Rattle.sheet_rules.proofs.Names.{start_name, name_length}
-use Rattle.newick_writing.proofs.put_name.Goals.{After-index_of_u16-start}
+use Rattle.newick_writing.proofs.Putting.{put_over}
+use Rattle.newick_writing.proofs.put_name.Goals.{After-from-many}
 use Rattle.newick_writing.proofs.put_name.Goals as goal
 
-pub bounds-starts-leaf : goal.bounds-starts-leaf
-bounds-starts-leaf c = c.requires.placed.inside
-
 -- where the name starts, that it ends within the sheet, and that it has as many bytes as its length byte says
-module _ (c : After-index_of_u16-start) where
+module _ (c : After-from-many) where
   starts :
       let a = c.args in
-      c.index_of_u16-start.result ≡ name_start a.sheet.now a.leaf
-  starts = c.index_of_u16-start.ensures ∙ c.requires.placed.start
+      c.from-start.result ≡ name_start a.sheet.now a.leaf
+  starts = c.from-start.ensures ∙ c.requires.placed.start
 
-  ends : let S = c.args.sheet.now in next_name S c.index_of_u16-start.result ≤ length S
-  ends = rw c.index_of_u16-start.ensures c.requires.placed.ends
+  ends : let S = c.args.sheet.now in next_name S c.from-start.result ≤ length S
+  ends = rw c.from-start.ensures c.requires.placed.ends
 
   many :
       let a = c.args in
-      length (name a.sheet.now a.leaf) ≡ get_or a.sheet.now c.index_of_u16-start.result 0
-  many = sym (ap length (start_name _ _ starts)) ∙ name_length _ _ ends
+      length (name a.sheet.now a.leaf) ≡ c.from-many.result
+  many = sym (ap length (start_name _ _ starts)) ∙ name_length _ _ ends ∙ sym c.from-many.ensures
 
-pub bounds-sheet-start : goal.bounds-sheet-start
-bounds-sheet-start c = omega (arith, ends (goal.at.bounds-sheet-start c).After-index_of_u16-start)
-
-pub overflow_add-start : goal.overflow_add-start
-overflow_add-start c = omega (arith, ends (goal.at.overflow_add-start c).After-index_of_u16-start)
-
-pub put_bytes-requires : goal.put_bytes-requires
-put_bytes-requires c =
-    let start = (goal.at.put_bytes-requires c).After-index_of_u16-start in
-    let room = start.before.before.before.before.requires.room.enough in
-    let byte = c.index_of_u8-many.ensures.0 in
-    (omega (arith, ends start, byte), omega (arith, many start, room, byte))
-
-pub overflow_add-result : goal.overflow_add-result
-overflow_add-result c =
-    let start = (goal.at.overflow_add-result c).After-index_of_u16-start in
-    let room = start.before.before.before.before.requires.room.enough in
-    omega (arith, many start, room, c.index_of_u8-many.ensures.0)
+pub slice_bounds-copy_from_slice-end : goal.slice_bounds-copy_from_slice-end
+slice_bounds-copy_from_slice-end c =
+    let here = (goal.at.slice_bounds-copy_from_slice-end c).After-from-many in
+    omega (arith, many here, here.before.requires.room.enough)
 
 pub returns : goal.returns
 unfolding name_at
 returns c =
-    let start = (goal.at.returns c).After-index_of_u16-start in
-    let byte = c.index_of_u8-many.ensures.0 in
+    let here = (goal.at.returns c).After-from-many in
+    let S = c.args.sheet.now in
+    let start = c.from-start.result in
+    let gap : start + 1 + c.from-many.result - (start + 1) ≡ c.from-many.result = omega arith in
+    let word : c.copy_from_slice.new.self ≡ name S c.args.leaf =
+    c.copy_from_slice.ensures.after ∙ rw (gap, c.from-many.ensures) (start_name _ _ (starts here)) in
     record {
-      next = rw (byte ∙ sym (many start));
-      bytes = c.put_bytes.ensures ∙ rw (byte, ← start_name _ _ (starts start));
+      next = rw (many here);
+      bytes = rw word (put_over _ _ _ _ (many here) here.before.requires.room.enough);
     }

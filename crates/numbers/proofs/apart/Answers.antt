@@ -3,10 +3,6 @@ use native.Mathlib.Omega.{arith}
 use Rattle.base.specs.Numbers.{distance}
 use Rattle.numbers.proofs.apart.Goals as goal
 
-pub returns-then-x-y : goal.returns-then-x-y
-unfolding distance
-returns-then-x-y c = (omega arith, omega arith)
-
 pub returns : goal.returns
 unfolding distance
-returns c = (omega arith, omega arith)
+returns c = (omega (arith, c.abs_diff.ensures), omega arith)

@@ -1,13 +1,7 @@
 -- `numbers::own_numbers` meets its contract. The loop's invariant: the numbers of the leaves passed are filled in.
 use mathlib.Core.Path.{◌≡◌}
-use Prim.Native.Nat.{◌-◌, ◌≤◌}
-use lib.ListN.{length}
 use Rattle.base.specs.Lists.{filled}
 use Rattle.numbers.proofs.own_numbers.Given as goal
 
 abbrev pub invariant-loop-i : goal.invariant-loop-i
-invariant-loop-i l =
-    (l.i ≤ l.n) × (length l.numbers ≡ length l.initial.numbers) × (l.numbers ≡ filled l.i (λ k. k) l.initial.numbers)
-
-abbrev pub decreases-loop-i : goal.decreases-loop-i
-decreases-loop-i l = l.n - l.i
+invariant-loop-i l = l.numbers ≡ filled l.i (λ k. k) l.initial.numbers

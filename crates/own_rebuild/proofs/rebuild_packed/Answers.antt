@@ -2,8 +2,7 @@
 -- rebuilds it.
 use mathlib.Core.Path.{◌≡◌, ap, ◌∙◌}
 use mathlib.Core.Option.{none}
-use mathlib.Core.List.{List, []}
-use Prim.Native.Nat.{ℕ, ◌-◌, ◌*◌}
+use Prim.Native.Nat.{◌-◌, ◌*◌}
 use lib.ListN.{length}
 use Rattle.limits.specs.declared.Kind.TheVariants.{Counts}
 use Rattle.refusals.specs.Refusals.{outcome_of}
@@ -14,62 +13,61 @@ use Rattle.packed_tables.proofs.PackedIsTable.{sheet_is_table}
 use Rattle.packed_tables.proofs.Sizes.{packed_passes}
 use Rattle.rebuild_answers.specs.Operations.{packed_refusal, packed_answer}
 use Rattle.rebuild_answers.proofs.RebuildRefusals.{packed_as_due, packed_right}
-use Rattle.eligible_pairs.specs.inner.Lent.{lent_table}
+use Rattle.eligible_pairs.specs.inner.Lent.{table_in}
 use Rattle.eligible_pairs.proofs.Lent.{as_packed}
-use Rattle.own_rebuild.proofs.rebuild_packed.Goals.{After-judge_sizes-judged, In-Done}
+use Rattle.own_rebuild.proofs.rebuild_packed.Goals.{After-judge_sizes, In_ok-judge_sizes}
 use Rattle.own_rebuild.proofs.rebuild_packed.Goals as goal
 
 -- what was judged
 judged :
-    (c : After-judge_sizes-judged)
+    (c : After-judge_sizes)
     → let a = c.args in
-    c.judge_sizes-judged.result ≡ outcome_of (packed_refusal a.n a.packed.now (length a.out.now))
+    c.judge_sizes.result ≡ outcome_of (packed_refusal a.n a.packed.now (length a.out.now))
 judged c =
     let due = c.packed_bytes.ensures in
-    c.judge_sizes-judged.ensures ∙ ap outcome_of (packed_as_due _ _ _ _ _ due c.listing_numbers.ensures)
+    c.judge_sizes.ensures ∙ ap outcome_of (packed_as_due _ _ _ _ _ due c.listing_numbers.ensures)
 
-pub returns-in_default : goal.returns-in_default
+pub returns-in_err-judge_sizes : goal.returns-in_err-judge_sizes
 unfolding packed_answer
-returns-in_default c =
-    let e = judged (goal.at.returns-in_default c).After-judge_sizes-judged in record {
-      answer = (unless_told _ _ c.args.out.now _ _ e c.in_default.is).0;
-      buffer = (unless_told _ _ _ _ _ e c.in_default.is).1;
-    }
+returns-in_err-judge_sizes c =
+    let told = judged (goal.at.returns-in_err-judge_sizes c).After-judge_sizes in
+    let t = unless_told _ _ c.args.out.now _ told c.in_err-judge_sizes.was c.from_residual.ensures in
+    record { answer = t.0; buffer = t.1 }
 
 -- nothing was refused
 passed :
-    (c : In-Done)
+    (c : In_ok-judge_sizes)
     → let a = c.args in
     packed_refusal a.n a.packed.now (length a.out.now) ≡ none
 passed c =
     let due = c.packed_bytes.ensures in
     call_passed _
-    (c.judge_sizes-judged.ensures ∙ ap outcome_of (packed_as_due _ _ _ _ _ due c.listing_numbers.ensures))
-    c.in-Done.is
+    (c.judge_sizes.ensures ∙ ap outcome_of (packed_as_due _ _ _ _ _ due c.listing_numbers.ensures))
+    c.in_ok-judge_sizes.was
 
 right :
-    (c : In-Done)
+    (c : In_ok-judge_sizes)
     → let a = c.args in
     RightSizes Counts a.n (a.n * (a.n - 1)) (length a.packed.now) (2 * (a.n - 2)) (length a.out.now)
 right c = packed_right _ _ _ (passed c)
 
--- the table that the bytes mean is the one that is lent
+-- the bytes are a packed table
 packed_meant :
-    (c : In-Done) (t : List ℕ)
+    (c : In_ok-judge_sizes)
     → let a = c.args in
-    lent_table a.n t a.packed.now ≡ table_with a.n (packed_cells a.n a.packed.now)
-packed_meant c t = as_packed _ t _ (packed_passes _ _ ((right c).count, (right c).long))
+    table_in a.n a.packed.now ≡ table_with a.n (packed_cells a.n a.packed.now)
+packed_meant c = as_packed _ _ (packed_passes _ _ ((right c).count, (right c).long))
 
 pub rebuild_checked-requires : goal.rebuild_checked-requires
 rebuild_checked-requires c = (
-  (right (goal.at.rebuild_checked-requires c).In-Done).count,
-  rw (packed_meant (goal.at.rebuild_checked-requires c).In-Done []) (sheet_is_table _ _),
-  (right (goal.at.rebuild_checked-requires c).In-Done).enough,
+  (right (goal.at.rebuild_checked-requires c).In_ok-judge_sizes).count,
+  rw (packed_meant (goal.at.rebuild_checked-requires c).In_ok-judge_sizes) (sheet_is_table _ _),
+  (right (goal.at.rebuild_checked-requires c).In_ok-judge_sizes).enough,
 )
 
 pub returns : goal.returns
 unfolding packed_answer
 returns c =
-    let told = rw (packed_meant (goal.at.returns c).In-Done []) at c.rebuild_checked.ensures in
-    let t = unless_none _ _ _ _ _ (passed (goal.at.returns c).In-Done) (told.answer, told.buffer) in
+    let told = rw (packed_meant (goal.at.returns c).In_ok-judge_sizes) at c.rebuild_checked.ensures in
+    let t = unless_none _ _ _ _ _ (passed (goal.at.returns c).In_ok-judge_sizes) (told.answer, told.buffer) in
     record { answer = t.0; buffer = t.1 }

@@ -7,36 +7,32 @@ use lib.Dec.{ltb}
 use Rattle.packed_tables.specs.Packed.{Packed}
 use Rattle.packed_tables.specs.Operations.{is_packed, packed_cell}
 use Rattle.packed_tables.proofs.Sizes.{passed_packed, cell_read}
-use Rattle.packed_tables.proofs.cell.Goals.{Else-n-j}
+use Rattle.packed_tables.proofs.cell.Goals.{Then-is_packed}
+use Rattle.packed_tables.proofs.cell.Goals.{else-is_packed-via-then-is_packed+then-i-n+else-j-n}
+use Rattle.packed_tables.proofs.cell.Goals.{else-is_packed-via-then-is_packed+else-i-n}
+use Rattle.packed_tables.proofs.cell.Goals.{else-is_packed-via-else-is_packed}
 use Rattle.packed_tables.proofs.cell.Goals as goal
 
-pub returns-then-not-is_packed : goal.returns-then-not-is_packed
-unfolding packed_cell
-returns-then-not-is_packed c = rw (sym c.is_packed.ensures ∙ c.if-not-is_packed.true)
-
-pub returns-then-n-i : goal.returns-then-n-i
-unfolding packed_cell
-returns-then-n-i c =
-    let a = c.args in
-    rw (le-ltb a.i a.n c.if-n-i.true, and-false (is_packed a.n a.packed.now))
-
-pub returns-then-n-j : goal.returns-then-n-j
-unfolding packed_cell
-returns-then-n-j c =
-    let a = c.args in
-    let first = ltb a.i a.n in
-    rw (le-ltb a.j a.n c.if-n-j.true, and-false first, and-false (is_packed a.n a.packed.now))
-
 -- the bytes are a packed table
-right :
-    (c : Else-n-j)
-    → (let a = c.args in Packed a.n a.packed.now)
-right c =
-    passed_packed _ _ (sym c.is_packed.ensures ∙ c.if-not-is_packed.false)
+right : (c : Then-is_packed) → Packed c.args.n c.args.packed.now
+right c = passed_packed _ _ (sym c.is_packed.ensures ∙ c.if-is_packed.true)
 
-pub cell_of-requires : goal.cell_of-requires
-cell_of-requires c = (right c, omega arith, omega arith)
+pub invariant_of-cell : goal.invariant_of-cell
+invariant_of-cell c = record { packed = right (goal.at.invariant_of-cell c).Then-is_packed }
+
+pub returns-then-j-n : goal.returns-then-j-n
+returns-then-j-n c =
+    let packed = right (goal.at.returns-then-j-n c).Then-is_packed in
+    c.cell.ensures ∙ sym (cell_read _ _ packed _ _ (omega arith) (omega arith))
 
 pub returns : goal.returns
+unfolding packed_cell
 returns c =
-    c.cell_of.ensures ∙ sym (cell_read _ _ (right (goal.at.returns c).Else-n-j) _ _ (omega arith) (omega arith))
+    let a = c.args in
+    elim c.else-is_packed.branch [
+      | else-is_packed-via-then-is_packed+then-i-n+else-j-n w ↦
+          rw (le-ltb a.j a.n w.if-j-n.false, and-false (ltb a.i a.n), and-false (is_packed a.n a.packed.now))
+      | else-is_packed-via-then-is_packed+else-i-n w ↦
+          rw (le-ltb a.i a.n w.if-i-n.false, and-false (is_packed a.n a.packed.now))
+      | else-is_packed-via-else-is_packed w ↦ rw (sym c.is_packed.ensures ∙ w.if-is_packed.false)
+    ]

@@ -8,37 +8,33 @@ use lib.ListN.{length}
 use Rattle.packed_tables.specs.Packed.{Packed}
 use Rattle.packed_tables.specs.Operations.{is_packed, with_packed_row}
 use Rattle.packed_tables.proofs.Sizes.{passed_packed, row_read}
-use Rattle.packed_tables.proofs.write_row.Goals.{Else-out-n}
+use Rattle.packed_tables.proofs.write_row.Goals.{Then-is_packed}
+use Rattle.packed_tables.proofs.write_row.Goals.{else-is_packed-via-then-is_packed+then-i-n+else-n-out}
+use Rattle.packed_tables.proofs.write_row.Goals.{else-is_packed-via-then-is_packed+else-i-n}
+use Rattle.packed_tables.proofs.write_row.Goals.{else-is_packed-via-else-is_packed}
 use Rattle.packed_tables.proofs.write_row.Goals as goal
 
-pub returns-then-not-is_packed : goal.returns-then-not-is_packed
-unfolding with_packed_row
-returns-then-not-is_packed c = rw (sym c.is_packed.ensures ∙ c.if-not-is_packed.true)
+-- the bytes are a packed table
+right : (c : Then-is_packed) → Packed c.args.n c.args.packed.now
+right c = passed_packed _ _ (sym c.is_packed.ensures ∙ c.if-is_packed.true)
 
-pub returns-then-n-i : goal.returns-then-n-i
-unfolding with_packed_row
-returns-then-n-i c =
-    let a = c.args in
-    rw (le-ltb a.i a.n c.if-n-i.true, and-false (is_packed a.n a.packed.now))
+pub invariant_of-write_row : goal.invariant_of-write_row
+invariant_of-write_row c = record { packed = right (goal.at.invariant_of-write_row c).Then-is_packed }
 
-pub returns-then-out-n : goal.returns-then-out-n
+pub returns-then-n-out : goal.returns-then-n-out
+returns-then-n-out c =
+    let packed = right (goal.at.returns-then-n-out c).Then-is_packed in
+    c.write_row.ensures ∙ sym (row_read _ _ packed _ _ (omega arith) (omega arith))
+
+pub returns-else-is_packed : goal.returns-else-is_packed
 unfolding with_packed_row
-returns-then-out-n c =
+returns-else-is_packed c =
     let a = c.args in
     let room = length a.out.now in
-    let row = ltb a.i a.n in
-    rw (lt-leb a.n room c.if-out-n.true, and-false row, and-false (is_packed a.n a.packed.now))
-
--- the bytes are a packed table
-right :
-    (c : Else-out-n)
-    → (let a = c.args in Packed a.n a.packed.now)
-right c =
-    passed_packed _ _ (sym c.is_packed.ensures ∙ c.if-not-is_packed.false)
-
-pub row_of-requires : goal.row_of-requires
-row_of-requires c = (right (goal.at.row_of-requires c).Else-out-n, omega arith, omega arith)
-
-pub returns : goal.returns
-returns c =
-    c.row_of.ensures ∙ sym (row_read _ _ (right (goal.at.returns c).Else-out-n) _ _ (omega arith) (omega arith))
+    elim c.else-is_packed.branch [
+      | else-is_packed-via-then-is_packed+then-i-n+else-n-out w ↦
+          rw (lt-leb a.n room w.if-n-out.false, and-false (ltb a.i a.n), and-false (is_packed a.n a.packed.now))
+      | else-is_packed-via-then-is_packed+else-i-n w ↦
+          rw (le-ltb a.i a.n w.if-i-n.false, and-false (is_packed a.n a.packed.now))
+      | else-is_packed-via-else-is_packed w ↦ rw (sym c.is_packed.ensures ∙ w.if-is_packed.false)
+    ]

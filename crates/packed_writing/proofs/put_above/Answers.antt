@@ -29,5 +29,5 @@ bounds-packed-at-2 c = simp length-set (omega (arith, ends (goal.at.bounds-packe
 pub returns : goal.returns
 returns c =
     let a = c.args in
-    rw (c.cells_before-at.ensures, c.low_byte.ensures, c.high_byte.ensures)
+    rw (c.cells_before-at.ensures, c.to_le_bytes.ensures)
     (cell_put a.n a.packed.now c.requires.0 a.i a.j a.v c.requires.1 c.requires.2 (omega arith))

@@ -5,5 +5,5 @@ use Rattle.packed_writing.proofs.put_cell.Goals as goal
 pub returns-then-i-j : goal.returns-then-i-j
 returns-then-i-j c = c.put_above.ensures
 
-pub returns : goal.returns
-returns c = mirror_put c.put_above-2.ensures
+pub returns-else-i-j : goal.returns-else-i-j
+returns-else-i-j c = mirror_put c.put_above-else-i-j.ensures

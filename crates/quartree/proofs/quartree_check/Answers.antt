@@ -3,4 +3,4 @@ use Rattle.replies.proofs.Replies.{replied}
 use Rattle.quartree.proofs.quartree_check.Goals as goal
 
 pub returns : goal.returns
-returns c = replied _ c.reply_of.ensures c.check.ensures
+returns c = replied _ c.reply.ensures c.check.ensures

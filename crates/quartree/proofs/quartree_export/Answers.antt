@@ -5,5 +5,5 @@ use Rattle.quartree.proofs.quartree_export.Goals as goal
 
 pub returns : goal.returns
 returns c =
-    let done = c.export-exported.ensures in
-    record { answer = length_replied _ _ _ done.answer c.reply_with.ensures; buffer = done.buffer }
+    let done = c.export.ensures in
+    record { answer = length_replied _ done.answer c.reply.ensures; buffer = done.buffer }

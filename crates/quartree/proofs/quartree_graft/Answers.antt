@@ -5,4 +5,4 @@ use Rattle.quartree.proofs.quartree_graft.Goals as goal
 pub returns : goal.returns
 returns c =
     let done = c.graft.ensures in
-    record { answer = record_replied _ c.record_reply.ensures done.answer; listing = done.listing; table = done.table }
+    record { answer = record_replied _ c.reply.ensures done.answer; listing = done.listing; table = done.table }

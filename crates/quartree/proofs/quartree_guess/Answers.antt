@@ -8,8 +8,8 @@ use Rattle.quartree.proofs.quartree_guess.Goals as goal
 pub returns : goal.returns
 unfolding guess_listing
 returns c =
-    let done = rw c.kind_of.ensures at c.guess.ensures in
+    let done = rw c.from.ensures at c.guess.ensures in
     let t =
     reply_gives guess_reply _ _ (guess_meaning _ _ _ _)
-    (guess_replied _ c.guess_reply.ensures done.answer, done.buffer) in
+    (guess_replied _ c.reply.ensures done.answer, done.buffer) in
     record { answer = t.0; buffer = t.1.0; meaning = t.1.1 }

@@ -17,5 +17,5 @@ returns c =
     let t =
     with_meaning (λ a. record_reply (marked _ Imported a)) (ImportMeans _ _ _) (import_answer _ _ _)
     (import_answer_says _ _ _)
-    (record_replied _ c.record_reply.ensures done.answer, done.buffer) in
+    (record_replied _ c.reply.ensures done.answer, done.buffer) in
     record { answer = t.0; buffer = t.1.0; meaning = t.1.1 }

@@ -4,5 +4,5 @@ use Rattle.quartree.proofs.quartree_look_all.Goals as goal
 
 pub returns : goal.returns
 returns c =
-    let done = rw c.kind_of.ensures at c.look_all.ensures in
-    record { answer = replied _ c.reply_of.ensures done.answer; buffer = done.buffer }
+    let done = rw c.from.ensures at c.look_all.ensures in
+    record { answer = replied _ c.reply.ensures done.answer; buffer = done.buffer }

@@ -4,5 +4,5 @@ use Rattle.quartree.proofs.quartree_restandardise.Goals as goal
 
 pub returns : goal.returns
 returns c =
-    let done = rw c.origin_of.ensures at c.restandardise.ensures in
-    record { answer = record_replied _ c.record_reply.ensures done.answer; buffer = done.buffer }
+    let done = rw c.from.ensures at c.restandardise.ensures in
+    record { answer = record_replied _ c.reply.ensures done.answer; buffer = done.buffer }

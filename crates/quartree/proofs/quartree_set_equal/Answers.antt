@@ -3,4 +3,4 @@ use Rattle.replies.proofs.Replies.{verdict_replied}
 use Rattle.quartree.proofs.quartree_set_equal.Goals as goal
 
 pub returns : goal.returns
-returns c = verdict_replied _ c.verdict_reply.ensures c.equal.ensures
+returns c = verdict_replied _ c.reply.ensures c.equal.ensures

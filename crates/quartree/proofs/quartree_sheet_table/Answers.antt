@@ -8,6 +8,6 @@ use Rattle.quartree.proofs.quartree_sheet_table.Goals as goal
 
 pub returns : goal.returns
 returns c =
-    let done = c.table_of.ensures in
-    let count = ap (λ x. x % figure_limit) c.figures_of-figures.ensures.0 in
+    let done = c.sheet_table.ensures in
+    let count = ap (λ x. x % figure_limit) c.leaf_count_of.ensures.0 in
     record { answer = replied_with _ _ _ c.reply_with.ensures count done.answer; buffer = done.buffer }

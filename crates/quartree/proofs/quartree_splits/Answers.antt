@@ -5,4 +5,4 @@ use Rattle.quartree.proofs.quartree_splits.Goals as goal
 pub returns : goal.returns
 returns c =
     let done = c.splits.ensures in
-    record { answer = replied _ c.reply_of.ensures done.answer; buffer = done.buffer }
+    record { answer = replied _ c.reply.ensures done.answer; buffer = done.buffer }

@@ -6,4 +6,4 @@ use Rattle.rebuild.proofs.main.Goals as goal
 pub print_rows-requires : goal.print_rows-requires
 print_rows-requires c =
     let answer = c.guess_sheet-answer.ensures.answer in
-    rw c.leaf_count_of-n.ensures.0 (told_count _ _ (sym answer ∙ c.in-Tree.is)).1
+    rw c.leaf_count_of-n.ensures.0 (told_count _ _ (sym answer ∙ c.in-Ok.is)).1

@@ -5,7 +5,7 @@ use Rattle.replies.proofs.Numbers.{numbered}
 use Rattle.replies.proofs.refusal_reply.Goals as goal
 
 pub in_one-requires : goal.in_one-requires
-in_one-requires c = omega (arith, c.number.ensures, (numbered c.args.r).1)
+in_one-requires c = omega (arith, c.from.ensures, (numbered c.args.r).1)
 
 pub returns : goal.returns
-returns c = c.in_one.ensures ∙ rw (c.number.ensures, c.figure_of.ensures)
+returns c = c.in_one.ensures ∙ rw (c.from.ensures, c.figure_of.ensures)

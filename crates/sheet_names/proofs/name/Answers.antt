@@ -1,23 +1,21 @@
--- `sheet_names::name` meets its contract: what `judge_name` accepts has a name that ends within the sheet.
-use mathlib.Core.Path.{ap, sym, ◌∙◌}
-use Rattle.refusals.specs.declared.Outcome.{Outcome}
-use Rattle.sheet_rules.specs.Sheets.{name}
-use Rattle.sheet_names.specs.inner.Shown.{shown_if}
-use Rattle.sheet_names.proofs.Asked.{asked_shown, asked_within}
+-- `sheet_names::name` meets its contract: what `judge_name` accepts has a name.
+use Rattle.refusals.proofs.Answers.{handed_on}
+use Rattle.name_checks.proofs.Tells.{tells_none, tells_this, tells_some}
+use Rattle.sheet_names.proofs.Asked.{name_refused, name_given, asked_leaf}
 use Rattle.sheet_names.proofs.name.Goals as goal
 
-pub shown_name-bytes-requires : goal.shown_name-bytes-requires
-shown_name-bytes-requires c h =
-    let s = c.args.sheet in
-    asked_within s.bytes.now s.leaves s.offset c.args.leaf (sym c.judge_name-outcome.ensures ∙ h)
+pub returns-in_err-names : goal.returns-in_err-names
+returns-in_err-names c =
+    rw (handed_on _ c.from_residual.ensures)
+    (name_refused _ _ _ _ (tells_some _ _ c.judge_name.ensures c.in_err-names.was))
+
+pub name-requires : goal.name-requires
+name-requires c =
+    let told = c.judge_name.ensures in
+    rw (tells_this _ _ told c.in_ok-names.was) (asked_leaf _ _ _ _ (tells_none _ _ told c.in_ok-names.was))
 
 pub returns : goal.returns
 returns c =
-    let s = c.args.sheet in
-    let k = c.args.leaf in
-    let e = c.judge_name-outcome.ensures in (
-      e,
-      c.shown_name-bytes.ensures
-          ∙ ap (λ (o : Outcome). shown_if o (name s.bytes.now k)) e
-          ∙ sym (asked_shown s.bytes.now s.leaves s.offset k),
-    )
+    let told = c.judge_name.ensures in
+    let named = rw (tells_this _ _ told c.in_ok-names.was) at c.name.ensures in
+    rw named (name_given _ _ _ _ (tells_none _ _ told c.in_ok-names.was))

@@ -1,41 +1,51 @@
--- `sheet_names::name_place` meets its contract: what `judge_name` accepts has a name that ends within the sheet, and
--- the length byte where it starts says how long it is.
-use mathlib.Core.Path.{refl, sym, ◌∙◌}
-use Prim.Native.Nat.{◌≤◌}
+-- `sheet_names::name_place` meets its contract: what `judge_name` accepts has a name, and it has its place.
+use mathlib.Core.Path.{◌≡◌, ◌∙◌}
 use native.Mathlib.Omega.{arith}
-use lib.ListN.{length}
-use Rattle.sheet_rules.specs.Sheets.{next_name, name_start}
-use Rattle.sheet_rules.proofs.Names.{start_next}
-use Rattle.sheet_names.proofs.Asked.{asked_within, place_none, place_found}
-use Rattle.sheet_names.proofs.name_place.Goals.{In-Done}
+use Rattle.refusals.specs.Refusals.{answered, returned}
+use Rattle.refusals.proofs.Answers.{handed_on}
+use Rattle.sheet_rules.specs.Sheets.{leaves_of, offset_of}
+use Rattle.name_index.specs.inner.Indexes.{first_names}
+use Rattle.name_checks.proofs.Tells.{tells_none, tells_this, tells_some}
+use Rattle.sheet_names.specs.inner.Asked.{asked_refusal}
+use Rattle.sheet_names.proofs.Asked.{asked_leaf, asked_few, place_refused, place_found}
+use Rattle.sheet_names.proofs.name_place.Goals.{After-judge_name}
 use Rattle.sheet_names.proofs.name_place.Goals as goal
 
-pub returns-in_default : goal.returns-in_default
-returns-in_default c =
-    let figures = c.figures_of-figures.ensures in
-    place_none _ _ figures.0 figures.1 c.judge_name-outcome.ensures c.in_default.is
+-- what `judge_name` says, of the figures that the trailer says
+says :
+    (c : After-judge_name)
+    → (let S = c.args.sheet.now in
+    c.judge_name.result
+    ≡ returned (answered (asked_refusal S (leaves_of S) (offset_of S) c.args.leaf) (first_names S (leaves_of S))))
+says c =
+    let figures = rw c.new.ensures at c.figures-figures.ensures in
+    rw (figures.0, figures.1) at c.judge_name.ensures
 
--- the name that is asked for ends within the sheet
-ends :
-    (c : In-Done)
-    → (let a = c.args in
-    next_name a.sheet.now (name_start a.sheet.now a.leaf) ≤ length a.sheet.now)
-ends c =
-    let a = c.args in
-    let done = sym c.judge_name-outcome.ensures ∙ c.in-Done.is in
-    omega (arith, asked_within _ _ _ _ done, start_next a.sheet.now a.leaf refl)
+pub returns-in_err-names : goal.returns-in_err-names
+returns-in_err-names c =
+    let arises = tells_some _ _ (says (goal.at.returns-in_err-names c).After-judge_name) c.in_err-names.was in
+    handed_on _ c.from_residual.ensures ∙ place_refused _ _ arises
 
-pub start_of-at-requires : goal.start_of-at-requires
-start_of-at-requires c = omega (arith, ends c)
+pub start-requires : goal.start-requires
+start-requires c =
+    let told = says (goal.at.start-requires c).After-judge_name in
+    rw (tells_this _ _ told c.in_ok-names.was) (asked_leaf _ _ _ _ (tells_none _ _ told c.in_ok-names.was))
 
 pub overflow_add-result : goal.overflow_add-result
-overflow_add-result c = omega (arith, ends (goal.at.overflow_add-result c).In-Done, c.start_of-at.ensures)
+overflow_add-result c =
+    let told = says (goal.at.overflow_add-result c).After-judge_name in
+    let start = rw (tells_this _ _ told c.in_ok-names.was) at c.start.ensures in
+    omega (arith, asked_few _ _ _ _ (tells_none _ _ told c.in_ok-names.was), start)
 
-pub bounds-sheet-at : goal.bounds-sheet-at
-bounds-sheet-at c = omega (arith, ends (goal.at.bounds-sheet-at c).In-Done, c.start_of-at.ensures)
+pub name-requires : goal.name-requires
+name-requires c =
+    let told = says (goal.at.name-requires c).After-judge_name in
+    rw (tells_this _ _ told c.in_ok-names.was) (asked_leaf _ _ _ _ (tells_none _ _ told c.in_ok-names.was))
 
 pub returns : goal.returns
 returns c =
-    let figures = c.figures_of-figures.ensures in
-    place_found _ _ figures.0 figures.1 c.judge_name-outcome.ensures c.in-Done.is
-    c.start_of-at.ensures c.index_of_u8.ensures.0
+    let told = says (goal.at.returns c).After-judge_name in
+    let this = tells_this _ _ told c.in_ok-names.was in
+    let start = rw this at c.start.ensures in
+    let named = rw this at c.name.ensures in
+    rw (start, named) (place_found _ _ (tells_none _ _ told c.in_ok-names.was))

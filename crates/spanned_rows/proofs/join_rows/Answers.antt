@@ -7,7 +7,7 @@ use Rattle.spanned_rows.proofs.join_rows.Goals.{After-row_at-row}
 use Rattle.spanned_rows.proofs.join_rows.Goals as goal
 
 pub loop-c-init : goal.loop-c-init
-loop-c-init c = joined_start c.requires
+loop-c-init c = rw c.new-joined.ensures (joined_start c.requires)
 
 -- the row of this turn
 row_of :
@@ -20,38 +20,38 @@ row_of c =
     row_read _ _ J.start.count J.start.keeps _ (omega (arith, J.from, c.loop-c-test.true))
     c.row_at-row.ensures
 
-pub offset_bounds-numbers-a : goal.offset_bounds-numbers-a
-offset_bounds-numbers-a c = omega (arith, (row_of c).first_before, c.loop-c.invariant.start.count)
+pub offset_bounds-numbers-row : goal.offset_bounds-numbers-row
+offset_bounds-numbers-row c = omega (arith, (row_of c).first_before, c.loop-c.invariant.start.count)
 
-pub bounds-numbers-a : goal.bounds-numbers-a
-bounds-numbers-a c =
-    let r = row_of (goal.at.bounds-numbers-a c).After-row_at-row in
+pub bounds-numbers-row : goal.bounds-numbers-row
+bounds-numbers-row c =
+    let r = row_of (goal.at.bounds-numbers-row c).After-row_at-row in
     omega (arith, r.first_before, c.loop-c.invariant.start.count)
 
-pub offset_bounds-numbers-b : goal.offset_bounds-numbers-b
-offset_bounds-numbers-b c =
-    let r = row_of (goal.at.offset_bounds-numbers-b c).After-row_at-row in
+pub offset_bounds-numbers-row-in-loop-c : goal.offset_bounds-numbers-row-in-loop-c
+offset_bounds-numbers-row-in-loop-c c =
+    let r = row_of (goal.at.offset_bounds-numbers-row-in-loop-c c).After-row_at-row in
     omega (arith, r.second_before, c.loop-c.invariant.start.count)
 
-pub bounds-numbers-b : goal.bounds-numbers-b
-bounds-numbers-b c =
-    let r = row_of (goal.at.bounds-numbers-b c).After-row_at-row in
+pub bounds-numbers-row-in-loop-c : goal.bounds-numbers-row-in-loop-c
+bounds-numbers-row-in-loop-c c =
+    let r = row_of (goal.at.bounds-numbers-row-in-loop-c c).After-row_at-row in
     omega (arith, r.second_before, c.loop-c.invariant.start.count)
 
-pub join_kept-joined-requires : goal.join_kept-joined-requires
-join_kept-joined-requires c =
-    let r = row_of (goal.at.join_kept-joined-requires c).After-row_at-row in
+pub join_kept-requires : goal.join_kept-requires
+join_kept-requires c =
+    let r = row_of (goal.at.join_kept-requires c).After-row_at-row in
     rw (r.first_is, r.second_is) (row_fits c.loop-c.invariant c.loop-c-test.true)
 
 pub loop-c-preserved : goal.loop-c-preserved
 loop-c-preserved c =
     let r = row_of (goal.at.loop-c-preserved c).After-row_at-row in
-    joined_more c.loop-c.invariant c.loop-c-test.true (rw (r.first_is, r.second_is) at c.join_kept-joined.ensures)
+    joined_more c.loop-c.invariant c.loop-c-test.true (rw (r.first_is, r.second_is) at c.join_kept.ensures)
 
-pub join_kept-requires : goal.join_kept-requires
-join_kept-requires c =
+pub join_kept-requires-2 : goal.join_kept-requires-2
+join_kept-requires-2 c =
     last_fits c.loop-c.invariant c.loop-c-test.false
 
 pub returns : goal.returns
 returns c =
-    joined_end c.loop-c.invariant c.loop-c-test.false c.join_kept.ensures
+    joined_end c.loop-c.invariant c.loop-c-test.false c.join_kept-2.ensures

@@ -1,11 +1,7 @@
 -- `spanned_rows::join_rows` meets its contract: the rows before node c are done.
-use Prim.Native.Nat.{◌-◌, ◌*◌}
 use Rattle.spanned_rows.proofs.Arrays.{JoinedTo}
 use Rattle.spanned_rows.proofs.join_rows.Given as goal
 
 abbrev pub invariant-loop-c : goal.invariant-loop-c
 invariant-loop-c l =
-    JoinedTo l.n l.m l.listing l.initial.numbers l.numbers l.rows l.chain l.c l.made l.chained
-
-abbrev pub decreases-loop-c : goal.decreases-loop-c
-decreases-loop-c l = 2 * l.n - 2 - l.c
+    JoinedTo l.n l.m l.listing l.initial.numbers l.numbers l.joined l.c

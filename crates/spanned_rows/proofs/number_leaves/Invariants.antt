@@ -1,10 +1,6 @@
 -- `spanned_rows::number_leaves` meets its contract: the first k leaves are numbered.
-use Prim.Native.Nat.{◌-◌}
 use Rattle.spanned_rows.proofs.Arrays.{Numbering}
 use Rattle.spanned_rows.proofs.number_leaves.Given as goal
 
 abbrev pub invariant-loop-k : goal.invariant-loop-k
 invariant-loop-k l = Numbering l.n l.marks l.numbers l.k l.m
-
-abbrev pub decreases-loop-k : goal.decreases-loop-k
-decreases-loop-k l = l.n - l.k

@@ -15,28 +15,29 @@ use Rattle.listings.proofs.ListingRefusal.{Accepted, accepted_listing}
 use Rattle.standard_listings.proofs.SubtreeRows.{standard_length}
 use Rattle.splits.specs.Operations.{splits_answer}
 use Rattle.splits.proofs.SplitsAnswer.{splits_end}
-use Rattle.splits.proofs.splits.Goals.{After-standard_rows, In-Done}
+use Rattle.splits.proofs.splits.Goals.{After-standard_rows, In_ok-judge_for_splits}
 use Rattle.splits.proofs.splits.Goals as goal
 
-pub returns-in_default : goal.returns-in_default
+pub returns-in_err-judge_for_splits : goal.returns-in_err-judge_for_splits
 unfolding splits_answer
-returns-in_default c =
+returns-in_err-judge_for_splits c =
     let a = c.args in
     let made = split_bytes a.n (tree_of a.n a.listing.now) in
-    let both = call_refused _ c.judge_for_splits-judged.ensures made a.out.now c.in_default.is in
+    let both =
+    call_refused _ c.judge_for_splits.ensures made a.out.now c.in_err-judge_for_splits.was c.from_residual.ensures in
     record { answer = both.0; buffer = both.1 }
 
 -- the listing is accepted
 fine :
-    (c : In-Done)
+    (c : In_ok-judge_for_splits)
     → let a = c.args in
     Accepted a.n a.listing.now (set_bytes * (a.n - 3)) (length a.out.now)
 fine c =
-    accepted_listing _ _ _ _ (call_passed _ c.judge_for_splits-judged.ensures c.in-Done.is)
+    accepted_listing _ _ _ _ (call_passed _ c.judge_for_splits.ensures c.in_ok-judge_for_splits.was)
 
 pub standard_rows-requires : goal.standard_rows-requires
 standard_rows-requires c =
-    let a = fine (goal.at.standard_rows-requires c).In-Done in
+    let a = fine (goal.at.standard_rows-requires c).In_ok-judge_for_splits in
     (a.count, a.keeps, omega (arith, a.count))
 
 -- the standard listing stands at the front of the local rows
@@ -44,7 +45,7 @@ module _ (c : After-standard_rows) where
   kept :
       let a = c.args in
       Accepted a.n a.listing.now (set_bytes * (a.n - 3)) (length a.out.now)
-  kept = accepted_listing _ _ _ _ (call_passed _ c.judge_for_splits-judged.ensures c.in-Done.is)
+  kept = accepted_listing _ _ _ _ (call_passed _ c.judge_for_splits.ensures c.in_ok-judge_for_splits.was)
 
   rows_are :
       let a = c.args in
@@ -58,11 +59,11 @@ module _ (c : After-standard_rows) where
       length (take (2 * (n - 2)) c.standard_rows.new.out) ≡ 2 * (n - 2)
   rows_long = ap length rows_are ∙ standard_length _ _ kept.count kept.keeps
 
-pub overflow_sub-end : goal.overflow_sub-end
-overflow_sub-end c = omega (arith, (fine (goal.at.overflow_sub-end c).In-Done).count)
+pub overflow_sub-rows : goal.overflow_sub-rows
+overflow_sub-rows c = omega (arith, (fine (goal.at.overflow_sub-rows c).In_ok-judge_for_splits).count)
 
-pub overflow_mul-end : goal.overflow_mul-end
-overflow_mul-end c = omega (arith, (fine (goal.at.overflow_mul-end c).In-Done).count)
+pub overflow_mul-rows : goal.overflow_mul-rows
+overflow_mul-rows c = omega (arith, (fine (goal.at.overflow_mul-rows c).In_ok-judge_for_splits).count)
 
 pub slice_bounds-rows-end : goal.slice_bounds-rows-end
 slice_bounds-rows-end c =
@@ -75,7 +76,7 @@ slice_bounds-write_splits-end c = sym (rows_long (goal.at.slice_bounds-write_spl
 
 pub write_splits-requires : goal.write_splits-requires
 write_splits-requires c =
-    let a = fine (goal.at.write_splits-requires c).In-Done in
+    let a = fine (goal.at.write_splits-requires c).In_ok-judge_for_splits in
     let tree = listing_tree _ a.count _ a.keeps in
     let rows = rows_are (goal.at.write_splits-requires c).After-standard_rows in
     (a.count, rw rows (tree_listing _ a.count _ tree).0, a.room_enough)
@@ -83,6 +84,6 @@ write_splits-requires c =
 pub returns : goal.returns
 unfolding splits_answer
 returns c =
-    let both = call_done _ c.judge_for_splits-judged.ensures _ c.args.out.now c.in-Done.is
+    let both = call_done _ c.judge_for_splits.ensures _ c.args.out.now c.in_ok-judge_for_splits.was
     (c.write_splits.ensures ∙ rw (rows_are (goal.at.returns c).After-standard_rows) (splits_end _ _ _)) in
     record { answer = both.0; buffer = both.1 }

@@ -7,6 +7,3 @@ use Rattle.standard_listings.proofs.order_rows.Given as goal
 abbrev pub invariant-loop-v : goal.invariant-loop-v
 invariant-loop-v l =
     (l.n ≤ l.v) × (l.v ≤ 2 * l.n - 2) × Leasts l.n l.listing l.v l.leasts × InOrder l.n l.listing l.v l.sorted
-
-abbrev pub decreases-loop-v : goal.decreases-loop-v
-decreases-loop-v l = 2 * l.n - 2 - l.v

@@ -7,23 +7,23 @@ use Rattle.standard_listings.specs.Operations.{standardise_answer}
 use Rattle.standard_listings.proofs.SubtreeRows.{standard_end}
 use Rattle.standard_listings.proofs.standardise.Goals as goal
 
-pub returns-in_default : goal.returns-in_default
+pub returns-in_err-judge_for_rows : goal.returns-in_err-judge_for_rows
 unfolding standardise_answer
-returns-in_default c =
-    let both = call_refused _ c.judge_for_rows-judged.ensures (standard c.args.n (tree_of c.args.n c.args.listing.now))
-    c.args.out.now c.in_default.is in
+returns-in_err-judge_for_rows c =
+    let both = call_refused _ c.judge_for_rows.ensures (standard c.args.n (tree_of c.args.n c.args.listing.now))
+    c.args.out.now c.in_err-judge_for_rows.was c.from_residual.ensures in
     record { answer = both.0; buffer = both.1 }
 
 pub standard_rows-requires : goal.standard_rows-requires
 standard_rows-requires c =
-    let a = accepted_listing _ _ _ _ (call_passed _ c.judge_for_rows-judged.ensures c.in-Done.is) in
+    let a = accepted_listing _ _ _ _ (call_passed _ c.judge_for_rows.ensures c.in_ok-judge_for_rows.was) in
     (a.count, a.keeps, a.room_enough)
 
 pub returns : goal.returns
 unfolding standardise_answer
 returns c =
-    let told = c.judge_for_rows-judged.ensures in
-    let done = c.in-Done.is in
+    let told = c.judge_for_rows.ensures in
+    let done = c.in_ok-judge_for_rows.was in
     let both = call_done _ told _ c.args.out.now done (standard_end _ _ _ _ _ (call_passed _ told done)
     c.standard_rows.ensures) in
     record { answer = both.0; buffer = both.1 }

@@ -11,6 +11,6 @@ pub returns-then-label-b : goal.returns-then-label-b
 unfolding growth
 returns-then-label-b c = rw (ne_eqb _ _ c.if-label-a.false, eq-eqb _ _ c.if-label-b.true)
 
-pub returns : goal.returns
+pub returns-else-label-b : goal.returns-else-label-b
 unfolding growth
-returns c = rw (ne_eqb _ _ c.if-label-a.false, ne_eqb _ _ c.if-label-b.false)
+returns-else-label-b c = rw (ne_eqb _ _ c.if-label-a.false, ne_eqb _ _ c.if-label-b.false)

@@ -4,15 +4,18 @@ use Rattle.table_checks.specs.Operations.{table_refusal}
 use Rattle.table_checks.proofs.TableRefusal.{right_square}
 use Rattle.table_checks.proofs.judge.Goals as goal
 
-pub returns-in_default : goal.returns-in_default
+pub returns-in_err-judge_table_sizes : goal.returns-in_err-judge_table_sizes
 unfolding table_refusal
-returns-in_default c = go_stops _ c.judge_table_sizes-sizes.ensures _ c.in_default.is
+returns-in_err-judge_table_sizes c =
+    go_stops _ c.judge_table_sizes.ensures _ c.in_err-judge_table_sizes.was
+    c.from_residual.ensures
 
-pub wrong-requires : goal.wrong-requires
-wrong-requires c =
-    right_square _ _ _ _ _ (call_passed _ c.judge_table_sizes-sizes.ensures c.in-Done.is)
+pub invariant_of-wrong : goal.invariant_of-wrong
+invariant_of-wrong c =
+    let passed = call_passed _ c.judge_table_sizes.ensures c.in_ok-judge_table_sizes.was in
+    record { square = right_square _ _ _ _ _ passed }
 
 pub returns : goal.returns
 unfolding table_refusal
 returns c =
-    go_passes _ c.judge_table_sizes-sizes.ensures _ c.in-Done.is c.wrong.ensures
+    go_passes _ c.judge_table_sizes.ensures _ c.in_ok-judge_table_sizes.was c.wrong.ensures

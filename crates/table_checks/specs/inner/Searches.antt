@@ -1,5 +1,5 @@
 -- The checks of a table, 4 and 5, as the searches that make them see them. No public contract cites it.
-use Rattle.std.specs.Prelude.{◌≡◌, cond, not, ◌&&◌, List, ℕ, ◌+◌, ◌*◌, ◌≤◌, ◌<◌, ltb, eqb, length, drop}
+use Rattle.std.specs.Prelude.{◌≡◌, not, ◌&&◌, List, ℕ, ◌+◌, ◌*◌, ◌≤◌, ◌<◌, ltb, eqb, length, drop}
 use Rattle.std.proofs.Math.Option.{Option, none, some}
 use Rattle.base.specs.Lists.{in_rows, find}
 use Rattle.limits.specs.Limits.{most_leaves}
@@ -11,10 +11,6 @@ use Rattle.trees.specs.Tables.{cell}
 pub record Square (n : ℕ) (t : List ℕ) : Type 0 where
   pub few : n ≤ most_leaves
   pub cells : length t ≡ n * n
-
--- what a search below n comes to: the number that it stops at, or none where that is n
-unfoldable pub found_below : ℕ → ℕ → Option ℕ
-found_below n r = cond (ltb r n) (some r) none
 
 -- the first i, j with i < j and unequal cells, of the pairs in row order from place k on
 unfoldable pub unequal_from : ℕ → List ℕ → ℕ → Option (ℕ × ℕ)

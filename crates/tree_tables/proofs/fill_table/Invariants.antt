@@ -1,14 +1,9 @@
 -- `tree_tables::fill_table` meets its contract: the rows of the leaves at the places before p are written.
-use Prim.Native.Nat.{◌-◌, ◌≤◌}
-use Rattle.least_depths.specs.inner.Depths.{TopsBefore}
-use Rattle.least_depths.proofs.RowCounts.{cell_at}
+use mathlib.Core.Path.{◌≡◌}
 use Rattle.tree_tables.proofs.Rows.{RowsPut}
 use Rattle.tree_tables.proofs.fill_table.Given as goal
 
 abbrev pub invariant-loop-p : goal.invariant-loop-p
 invariant-loop-p l =
-    (l.p ≤ l.n) × TopsBefore l.n l.aboves l.order l.depth l.p l.tops
-    × RowsPut l.n l.order (cell_at l.n l.listing) l.initial.out l.out l.p
-
-abbrev pub decreases-loop-p : goal.decreases-loop-p
-decreases-loop-p l = l.n - l.p
+    let order = l.row.order.now in
+    (order.n ≡ l.n) × (order.listing.now ≡ l.listing) × RowsPut order l.initial.out l.out l.p

@@ -7,7 +7,7 @@ pub returns : goal.returns
 returns c =
     let a = c.args in
     rw (c.eight_at.ensures, c.eight_at-2.ensures)
-    (same_numbers a.s.now a.t.now a.a a.b 8
+    (same_numbers a.s.now a.t.now a.at 8
     (λ k. omega (arith, c.shared_slice_known-1.given k))
     (λ k. omega (arith, c.shared_slice_known-2-1.given k))
     c.requires.0 c.requires.1)

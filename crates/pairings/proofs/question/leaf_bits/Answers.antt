@@ -1,41 +1,42 @@
 -- `pairings::question::leaf_bits` meets its contract: the four leaves are different, so no store changes another's bit.
-use Prim.Native.Nat.{ℕ, ◌≤◌}
+use mathlib.Core.Path.{◌≡◌, refl, ◌∙◌}
+use Prim.Native.Nat.{ℕ, ◌*◌, ◌%◌, ◌^◌, ◌≤◌}
+use native.Mathlib.Nat.{one-mul}
+use native.Mathlib.Numerals.{add-one}
 use native.Mathlib.Omega.{arith}
-use lib.ListN.{replicate, length-replicate, get_or-replicate}
+use lib.ListN.{length, replicate, length-replicate, get_or-replicate}
+use lib.Pow.{shl_exact}
 use Rattle.limits.specs.Limits.{most_nodes}
-use Rattle.pairings.proofs.Questions.{FourAsked, question_four}
-use Rattle.pairings.proofs.Sides.{bits_put}
-use Rattle.pairings.proofs.question.leaf_bits.Goals.{Start}
+use Rattle.pairings.proofs.Questions.{question_below, question_four}
+use Rattle.pairings.proofs.Sides.{puts, length_puts, bits_put}
 use Rattle.pairings.proofs.question.leaf_bits.Goals as goal
 
--- the four leaves are different, and below n
-four : (c : Start) → FourAsked c.args.n c.args.q
-four c = question_four c.args.n c.args.q (omega arith) c.requires.1
+-- the array before a leaf is put
+long : length {A = ℕ} (replicate most_nodes 0) ≡ most_nodes
+long = length-replicate {A = ℕ} most_nodes 0
 
-pub bounds-under-index_of_u16 : goal.bounds-under-index_of_u16
-bounds-under-index_of_u16 c =
-    omega (arith, c.index_of_u16.ensures, (four (goal.at.bounds-under-index_of_u16 c).Start).leaf_a)
+pub loop-i-init : goal.loop-i-init
+unfolding puts
+loop-i-init c = refl
 
-pub bounds-under-index_of_u16-2 : goal.bounds-under-index_of_u16-2
-bounds-under-index_of_u16-2 c =
-    omega (arith, c.index_of_u16-2.ensures, (four (goal.at.bounds-under-index_of_u16-2 c).Start).leaf_b)
+pub bounds-under-from : goal.bounds-under-from
+bounds-under-from c =
+    omega (arith, c.from.ensures, question_below c.args.n c.args.q c.requires.1 c.loop-i.i (omega arith))
 
-pub bounds-under-index_of_u16-3 : goal.bounds-under-index_of_u16-3
-bounds-under-index_of_u16-3 c =
-    omega (arith, c.index_of_u16-3.ensures, (four (goal.at.bounds-under-index_of_u16-3 c).Start).leaf_c)
-
-pub bounds-under-index_of_u16-4 : goal.bounds-under-index_of_u16-4
-bounds-under-index_of_u16-4 c =
-    omega (arith, c.index_of_u16-4.ensures, (four (goal.at.bounds-under-index_of_u16-4 c).Start).leaf_d)
+pub loop-i-preserved : goal.loop-i-preserved
+unfolding puts
+loop-i-preserved c =
+    let i = c.loop-i.i in
+    let bit : 1 * 2 ^ i % 2 ^ 8 ≡ 2 ^ i = shl_exact {a = 1} 1 i 8 (omega arith) (omega arith) ∙ one-mul _ in
+    rw (add-one i, ← c.loop-i.invariant, c.from.ensures, bit)
 
 pub returns : goal.returns
 returns c =
-    let few : c.args.n ≤ most_nodes = omega (arith, c.requires.0) in
-    bits_put c.args.q (replicate most_nodes 0) (length-replicate {A = ℕ} most_nodes 0) c.args.n _ _ _ _
-    c.index_of_u16.ensures
-    c.index_of_u16-2.ensures
-    c.index_of_u16-3.ensures
-    c.index_of_u16-4.ensures
-    few
-    (λ k l. get_or-replicate {A = ℕ} most_nodes k 0 0 (omega arith))
-    (four (goal.at.returns c).Start)
+    let a = c.args in
+    let all : c.loop-i.i ≡ 4 = omega arith in
+    let few : a.n ≤ most_nodes = omega (arith, c.requires.0) in
+    let four = question_four a.n a.q (omega arith) c.requires.1 in
+    rw (c.loop-i.invariant, all) (
+      length_puts a.q _ long 4,
+      bits_put a.q _ long a.n few (λ k l. get_or-replicate {A = ℕ} most_nodes k 0 0 (omega arith)) four,
+    )

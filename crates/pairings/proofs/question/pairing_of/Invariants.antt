@@ -2,7 +2,7 @@
 -- and none of their edges shows a pairing.
 use mathlib.Core.Path.{◌≡◌}
 use mathlib.Core.List.{List}
-use Prim.Native.Nat.{ℕ, ◌+◌, ◌≤◌, ◌-◌}
+use Prim.Native.Nat.{ℕ, ◌+◌}
 use lib.ListN.{length}
 use Rattle.limits.specs.Limits.{most_nodes}
 use Rattle.trees.specs.Trees.{leaf}
@@ -14,9 +14,6 @@ use Rattle.pairings.proofs.question.pairing_of.Given as goal
 
 abbrev pub invariant-loop-k : goal.invariant-loop-k
 invariant-loop-k l =
-    (l.k ≤ l.n - 2) × (length l.under ≡ most_nodes)
+    (length l.under ≡ most_nodes)
     × ((q : List ℕ) → Known (λ i. asked_in q (leaf i)) 0 l.initial.under l.n → FourAsked l.n q
     → PassedNumbers l.n l.listing q l.under (l.n + l.k))
-
-abbrev pub decreases-loop-k : goal.decreases-loop-k
-decreases-loop-k l = l.n - l.k

@@ -1,4 +1,5 @@
 -- `pairings::question::shown` meets its contract: the six sets of two leaves, pairing by pairing.
+use mathlib.Core.Path.{refl}
 use mathlib.Core.Logic.{inl, inr}
 use native.Mathlib.Omega.{arith}
 use borrow.Author.Tests.{ne_eqb}
@@ -7,15 +8,15 @@ use Rattle.pairings.proofs.question.shown.Goals as goal
 
 pub returns-in-3 : goal.returns-in-3
 unfolding shown_by
-returns-in-3 c = elim c.in-3.is [ inl e ↦ rw e | inr e ↦ rw e ]
+returns-in-3 c = elim c.in-3.is [ inl e ↦ rw e (refl, omega arith) | inr e ↦ rw e (refl, omega arith) ]
 
 pub returns-in-5 : goal.returns-in-5
 unfolding shown_by
-returns-in-5 c = elim c.in-5.is [ inl e ↦ rw e | inr e ↦ rw e ]
+returns-in-5 c = elim c.in-5.is [ inl e ↦ rw e (refl, omega arith) | inr e ↦ rw e (refl, omega arith) ]
 
 pub returns-in-6 : goal.returns-in-6
 unfolding shown_by
-returns-in-6 c = elim c.in-6.is [ inl e ↦ rw e | inr e ↦ rw e ]
+returns-in-6 c = elim c.in-6.is [ inl e ↦ rw e (refl, omega arith) | inr e ↦ rw e (refl, omega arith) ]
 
 pub returns-in_default : goal.returns-in_default
 unfolding shown_by
@@ -29,3 +30,4 @@ returns-in_default c =
       ne_eqb side 6 (grind arith),
       ne_eqb side 9 (grind arith),
     )
+    (omega arith)

@@ -3,8 +3,8 @@
 use Prim.Native.Nat.{◌+◌, ◌<◌}
 use native.Mathlib.Omega.{arith}
 use Rattle.poll_records.specs.inner.Due.{packed}
-use Rattle.poll_sums.specs.inner.Sums.{most_given}
 use Rattle.poll_records.proofs.PackedLeaves.{next_polled}
+use Rattle.poll_sums.specs.inner.Sums.{most_given}
 use Rattle.poll_sums.proofs.Sums.{dealt_le}
 use Rattle.poll_sums.proofs.Keeping.{fresh_ready, given_small, on_ready, on_next, on_added}
 use Rattle.poll_sums.proofs.Keeping.{end_added}
@@ -27,22 +27,22 @@ pub deal_with_fourth-requires : goal.deal_with_fourth-requires
 deal_with_fourth-requires c =
     let p = c.requires in
     let less = small (goal.at.deal_with_fourth-requires c).After-shares_of-shares in
-    (p.0, p.1, p.2, p.3, λ i j hi hj. omega (arith, p.4 i j hi hj, less))
+    (p.0, p.2, p.3, λ i j hi hj. omega (arith, p.4 i j hi hj, less))
 
-pub overflow_add-result : goal.overflow_add-result
+pub overflow_add-result-then-q-n : goal.overflow_add-result-then-q-n
 unfolding packed
-overflow_add-result c =
+overflow_add-result-then-q-n c =
     let p = c.requires in
     let l = p.0 in
     omega (arith, p.1.leaves, l.ab, l.bc, l.cd, l.dn, p.2)
 
-pub returns-then-d-n : goal.returns-then-d-n
-returns-then-d-n c =
+pub returns-then-q-n : goal.returns-then-q-n
+returns-then-q-n c =
     let a = c.args in
     let p = c.requires in
     let e = c.shares_of-shares.ensures in
     let g = c.deal_with_fourth.ensures in
-    let h = c.if-d-n.true in (
+    let h = c.if-q-n.true in (
       g.0,
       on_next a.n a.due p.0 p.1 p.2 a.code _ e h,
       on_ready a.n a.due p.0 p.1 p.2 a.code _ e h,
@@ -56,7 +56,6 @@ deal_of_three-requires c =
     let w = c.shares_of-shares.result in
     let g = c.deal_with_fourth.ensures in (
       p.0,
-      p.1,
       p.2,
       g.0,
       λ i j hi hj.
@@ -72,7 +71,7 @@ deal_of_three-requires c =
 pub begin-requires : goal.begin-requires
 begin-requires c =
     let p = c.requires in
-    (p.2, rw c.next.ensures (next_polled c.args.n c.args.due.quartet p.2 p.0))
+    rw c.next.ensures (next_polled c.args.n c.args.due.quartet p.2 p.0)
 
 pub returns : goal.returns
 returns c =
@@ -85,6 +84,5 @@ returns c =
       f.0,
       c.next.ensures,
       fresh_ready a.n _,
-      end_added a.n a.due p.0 p.1 p.2 a.code _ e a.sums.now _ g.1
-          c.next.result _ f.1,
+      end_added a.n a.due p.0 p.1 p.2 a.code _ e a.sums.now _ g.1 c.next.result _ f.1,
     )

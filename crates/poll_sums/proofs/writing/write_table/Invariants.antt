@@ -1,8 +1,8 @@
--- `poll_sums::writing::write_table` meets its contract: after k turns the first k cells are at the front of the
+-- `poll_sums::writing::write_table` meets its contract: after some turns the cells up to there are at the front of the
 -- buffer.
 use mathlib.Core.Path.{◌≡◌}
 use mathlib.Core.List.{List}
-use Prim.Native.Nat.{ℕ, ◌+◌, ◌-◌, ◌*◌, ◌/◌, ◌%◌, ◌≤◌, ◌<◌}
+use Prim.Native.Nat.{ℕ, ◌+◌, ◌*◌, ◌/◌, ◌%◌}
 use Rattle.base.specs.Lists.{filled}
 use Rattle.poll_sums.specs.inner.Sums.{mirrored_sum}
 use Rattle.poll_sums.proofs.writing.write_table.Given as goal
@@ -11,10 +11,8 @@ use Rattle.poll_sums.proofs.writing.write_table.Given as goal
 abbrev pub table_cell : ℕ → List ℕ → ℕ → ℕ
 table_cell n sums k = mirrored_sum n sums (k / n) (k % n)
 
-abbrev pub invariant-loop-k : goal.invariant-loop-k
-invariant-loop-k l =
-    (l.k ≤ l.m) × (l.at.column < l.n) × (l.at.row * l.n + l.at.column ≡ l.k)
-    × (l.out ≡ filled l.k (table_cell l.n l.sums) l.initial.out)
+abbrev pub invariant-loop-row : goal.invariant-loop-row
+invariant-loop-row l = l.out ≡ filled (l.row * l.n) (table_cell l.n l.sums) l.fn.out
 
-abbrev pub decreases-loop-k : goal.decreases-loop-k
-decreases-loop-k l = l.m - l.k
+abbrev pub invariant-loop-column : goal.invariant-loop-column
+invariant-loop-column l = l.out ≡ filled (l.row * l.n + l.column) (table_cell l.n l.sums) l.fn.out

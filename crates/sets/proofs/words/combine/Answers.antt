@@ -1,33 +1,21 @@
--- `sets::words::combine` meets its contract: before turn i the first i words are made of the two sets'.
-use mathlib.Core.Path.{refl, sym, ◌∙◌}
-use Prim.Native.Nat.{◌-◌, ◌<◌}
-use native.Mathlib.Omega.{arith}
-use lib.ListN.{length, length-set}
+-- `sets::words::combine` meets its contract: each word is made of the two sets'.
+use Rattle.std.proofs.Common.{rules}
+use mathlib.Core.Path.{sym, ◌∙◌}
+use lib.ListN.{get_or}
 use mir.Syntax.{w64}
-use Rattle.base.proofs.Filling.{known_more, known_whole}
+use Rattle.base.proofs.Filling.{known_whole}
 use Rattle.limits.specs.Limits.{set_words}
+use Rattle.sets.specs.inner.Numbers.{of_numbers}
 use Rattle.sets.proofs.WordSets.{array_cells}
 use Rattle.sets.proofs.SetLaws.{combined_cells}
-use Rattle.sets.proofs.words.combine.Invariants.{word}
 use Rattle.sets.proofs.words.combine.Goals as goal
-
-pub loop-i-init : goal.loop-i-init
-loop-i-init c = (omega arith, refl, λ j h. absurd (omega arith))
-
-pub loop-i-preserved : goal.loop-i-preserved
-loop-i-preserved c =
-    let l = c.loop-i in
-    let s = c.args in
-    let room : l.i < length l.r = omega arith in (
-      omega arith,
-      rw length-set l.invariant.1,
-      known_more (word s.what s.a s.b) 0 l.r l.i _ room c.combine_word.ensures l.invariant.2,
-    )
 
 pub returns : goal.returns
 returns c =
-    let l = c.loop-i in
-    let first = array_cells w64 set_words c.args.a _ c.well_formed.1.0 tt in
-    let second = array_cells w64 set_words c.args.b _ c.well_formed.1.1.0 tt in
-    known_whole _ 0 l.r set_words l.invariant.1 (λ i h. l.invariant.2 i (omega arith))
-    ∙ sym (combined_cells c.args.what 64 set_words _ _ first second)
+    let a = c.args in
+    let first = array_cells w64 set_words a.a _ c.well_formed.1.0 tt in
+    let second = array_cells w64 set_words a.b _ c.well_formed.1.1.0 tt in
+    let made = c.each_word.ensures in
+    known_whole (λ i. of_numbers a.what (get_or a.a i 0) (get_or a.b i 0)) 0 c.each_word.result set_words made.0
+    (λ i h. let m = made.1 i h in search (rules, m))
+    ∙ sym (combined_cells a.what 64 set_words _ _ first second)

@@ -1,29 +1,15 @@
--- `sets::words::of_bytes` meets its contract: before turn i the first i words are the set's.
-use mathlib.Core.Path.{refl}
-use Prim.Native.Nat.{◌-◌, ◌<◌}
-use native.Mathlib.Omega.{arith}
-use lib.ListN.{length, length-set}
-use Rattle.base.specs.Bits.{cells}
-use Rattle.base.proofs.Filling.{known_more, known_whole}
+-- `sets::words::of_bytes` meets its contract: each word is that of the set.
+use Rattle.std.proofs.Common.{rules}
+use Prim.Native.Nat.{◌+◌, ◌*◌}
+use Rattle.base.specs.Bits.{from_bits, cells}
+use Rattle.base.proofs.Filling.{known_whole}
 use Rattle.limits.specs.Limits.{set_words}
-use Rattle.sets.proofs.words.of_bytes.Invariants.{word}
+use Rattle.trees.specs.Splits.{set_of}
 use Rattle.sets.proofs.words.of_bytes.Goals as goal
-
-pub loop-i-init : goal.loop-i-init
-loop-i-init c = (omega arith, refl, λ j h. absurd (omega arith))
-
-pub loop-i-preserved : goal.loop-i-preserved
-loop-i-preserved c =
-    let l = c.loop-i in
-    let s = c.args.s in
-    let room : l.i < length l.r = omega arith in (
-      omega arith,
-      rw length-set l.invariant.1,
-      known_more (word s) 0 l.r l.i _ room c.word_at.ensures l.invariant.2,
-    )
 
 pub returns : goal.returns
 unfolding cells
 returns c =
-    let l = c.loop-i in
-    known_whole (word c.args.s) 0 l.r set_words l.invariant.1 (λ i h. l.invariant.2 i (omega arith))
+    let made = c.each_word.ensures in
+    known_whole (λ i. from_bits 64 (λ t. set_of c.args.s (64 * i + t))) 0 c.each_word.result set_words made.0
+    (λ i h. let m = made.1 i h in search (rules, m))

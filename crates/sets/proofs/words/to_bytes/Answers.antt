@@ -1,6 +1,5 @@
 -- `sets::words::to_bytes` meets its contract: before turn i the first i bytes are the set's.
-use mathlib.Core.Path.{refl}
-use Prim.Native.Nat.{◌<◌, ◌-◌}
+use Prim.Native.Nat.{◌<◌}
 use native.Mathlib.Omega.{arith}
 use lib.ListN.{length, length-set}
 use Rattle.base.specs.Bits.{cells}
@@ -9,9 +8,6 @@ use Rattle.limits.specs.Limits.{set_bytes}
 use Rattle.sets.proofs.WordSets.{byte_below}
 use Rattle.sets.proofs.words.to_bytes.Invariants.{byte}
 use Rattle.sets.proofs.words.to_bytes.Goals as goal
-
-pub loop-i-init : goal.loop-i-init
-loop-i-init c = (omega arith, refl, λ j h. absurd (omega arith))
 
 pub loop-i-preserved : goal.loop-i-preserved
 loop-i-preserved c =

@@ -1,37 +1,31 @@
--- `sheet_trees::bytes::write_bytes` meets its contract: after k turns the first k bytes are at the front of the buffer.
-use mathlib.Core.Path.{◌≡◌, sym, ◌∙◌, ap}
+-- `sheet_trees::bytes::write_bytes` meets its contract: after k turns the bytes of the first k numbers are at the front
+-- of the buffer.
+use mathlib.Core.Path.{◌≡◌, sym, ◌∙◌}
+use Prim.Native.Nat.{suc, ◌+◌, ◌*◌}
 use native.Mathlib.Omega.{arith}
 use lib.ListN.{length}
-use Rattle.base.proofs.Filling.{filled_none, filled_more, length_filled}
-use Rattle.sheet_trees.specs.inner.Bytes.{byte_rule}
+use Rattle.base.proofs.Filling.{filled_none, filled_more}
+use Rattle.sheet_trees.proofs.InBytes.{byte_rule, low_byte, high_byte, all_bytes}
 use Rattle.sheet_trees.proofs.bytes.write_bytes.Goals as goal
 
 pub loop-k-init : goal.loop-k-init
-loop-k-init c = (omega arith, sym (filled_none _ _))
-
-pub bounds-out-k : goal.bounds-out-k
-bounds-out-k c =
-    let a = c.args in
-    let l = c.loop-k in
-    let same = length_filled (byte_rule a.numbers.now) a.out.now l.k (omega arith) in
-    omega (arith, ap length l.invariant.1, same)
+loop-k-init c = sym (filled_none _ _)
 
 pub loop-k-preserved : goal.loop-k-preserved
 loop-k-preserved c =
     let a = c.args in
-    let l = c.loop-k in (
-      omega arith,
-      filled_more (byte_rule a.numbers.now) a.out.now l.invariant.1 (omega arith) c.byte_at.ensures,
-    )
-
-pub shape_of-out : goal.shape_of-out
-shape_of-out c =
-    let a = c.args in
-    let l = c.loop-k in
-    ap length l.invariant.1 ∙ length_filled (byte_rule a.numbers.now) a.out.now l.k (omega arith)
+    let k = c.loop-k.k in
+    let rule = byte_rule a.numbers.now in
+    let high : suc (2 * k) ≡ 2 * k + 1 = omega arith in
+    let next : 2 * k + 1 + 1 ≡ 2 * (k + 1) = omega arith in
+    let one =
+    filled_more rule a.out.now c.loop-k.invariant (omega arith) (c.low_byte.ensures ∙ sym (low_byte a.numbers.now k)) in
+    let two =
+    filled_more rule a.out.now one (omega arith)
+    (c.high_byte.ensures ∙ sym (rw high at (high_byte a.numbers.now k))) in
+    rw next at two
 
 pub returns : goal.returns
 returns c =
-    let l = c.loop-k in
-    let all : l.k ≡ c.args.many = omega arith in
-    rw (← all) l.invariant.1
+    let all : c.loop-k.k ≡ length c.args.numbers.now = omega arith in
+    (rw all at c.loop-k.invariant) ∙ all_bytes _ _

@@ -1,7 +1,6 @@
 -- `splits::writing::put_leaves` meets its contract: before turn k the first k entries are known.
 use mathlib.Core.Path.{◌≡◌}
 use mathlib.Core.List.{[]}
-use Prim.Native.Nat.{◌-◌, ◌≤◌}
 use lib.ListN.{length}
 use Rattle.base.proofs.Filling.{Known}
 use Rattle.limits.specs.Limits.{most_nodes}
@@ -11,7 +10,4 @@ use Rattle.splits.proofs.writing.put_leaves.Given as goal
 
 abbrev pub invariant-loop-k : goal.invariant-loop-k
 invariant-loop-k l =
-    (l.k ≤ l.n) × (length l.under ≡ most_nodes) × Known (λ i. set_of_subtree (leaf i)) [] l.under l.k
-
-abbrev pub decreases-loop-k : goal.decreases-loop-k
-decreases-loop-k l = l.n - l.k
+    (length l.under ≡ most_nodes) × Known (λ i. set_of_subtree (leaf i)) [] l.under l.k

@@ -2,7 +2,7 @@
 -- and the output the sets of the first k nodes.
 use mathlib.Core.Path.{◌≡◌}
 use mathlib.Core.List.{[], ◌++◌}
-use Prim.Native.Nat.{◌+◌, ◌*◌, ◌≤◌, ◌-◌}
+use Prim.Native.Nat.{◌+◌, ◌*◌}
 use lib.ListN.{length, drop}
 use Rattle.limits.specs.Limits.{most_nodes, set_bytes}
 use Rattle.listings.proofs.Entries.{Seen}
@@ -11,9 +11,6 @@ use Rattle.splits.proofs.writing.write_splits.Given as goal
 
 abbrev pub invariant-loop-k : goal.invariant-loop-k
 invariant-loop-k l =
-    (l.k ≤ l.n - 3) × (length l.out ≡ length l.initial.out) × (length l.under ≡ most_nodes)
+    (length l.under ≡ most_nodes)
     × Seen set_of_subtree [] l.n l.rows l.under (l.n + l.k)
     × (l.out ≡ node_sets l.n l.rows l.k ++ drop (set_bytes * l.k) l.initial.out)
-
-abbrev pub decreases-loop-k : goal.decreases-loop-k
-decreases-loop-k l = l.n - l.k

@@ -1,0 +1,15 @@
+-- `Table::write_above` meets its contract. The loop's invariant: the cells passed are filled in.
+use mathlib.Core.Path.{sym, ◌∙◌}
+use native.Mathlib.Omega.{arith}
+use Rattle.base.proofs.Filling.{filled_more}
+use Rattle.packed_tables.specs.Packed.{packed_cells}
+use Rattle.packed_tables.proofs.PackedIsTable.{above_diagonal}
+use Rattle.packed_tables.proofs.reading.Table.write_above.Goals as goal
+
+pub loop-j-preserved : goal.loop-j-preserved
+loop-j-preserved c =
+    let l = c.loop-j in
+    let s = c.args.self in
+    let cells = packed_cells s.n s.bytes.now in
+    let cell = c.cell_above.ensures ∙ sym (above_diagonal s.n cells c.args.i l.j (omega arith)) in
+    λ base h e. filled_more _ base (l.invariant base h e) (omega arith) cell
