@@ -11,18 +11,7 @@ use Rattle.trees.specs.Trees.{Tree, leaf, node, leaves, size}
 use Rattle.trees.proofs.Trees.{leaves_node, leaf_has, leaf_eq, size_leaf, size_node, apart_sym, Distinct, Within}
 use Rattle.trees.proofs.Trees.{within_left, within_right}
 use Rattle.trees.proofs.BranchedPairs.{inner_sum, inner_sum_leaf, inner_sum_left, inner_sum_right}
-use Rattle.leaf_orders.specs.inner.Orders.{depth}
-
--- a number's place, the pairs that branch off above it, and the depth before its first leaf are p, u and w
-abbrev pub PlacedAt : (place above before : ℕ → ℕ) (c p u w : ℕ) → Type 0
-PlacedAt place above before c p u w = (place c ≡ p) × (above c ≡ u) × (before c ≡ w)
-
--- the leaves of a subtree follow one another from place p on
-abbrev pub LaidOut : (n : ℕ) (place above before : ℕ → ℕ) → Tree → (p u w : ℕ) → Type 0
-LaidOut n place above before (leaf k) p u w = PlacedAt place above before k p u w
-LaidOut n place above before (node A B) p u w =
-    LaidOut n place above before A p (u + P (size B)) w
-    × LaidOut n place above before B (p + size A) (u + P (size A)) (depth n A B u)
+use Rattle.leaf_orders.specs.inner.Orders.{depth, PlacedAt, LaidOut}
 
 module _ (n : ℕ) (place above before : ℕ → ℕ) where
   -- the leaves of a subtree stand at its places

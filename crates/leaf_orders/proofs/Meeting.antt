@@ -16,8 +16,8 @@ use Rattle.trees.proofs.Trees.{leaves_node, leaf_eq, size_leaf, size_node, apart
 use Rattle.trees.proofs.BranchedPairs.{inner_sum}
 use Rattle.trees.proofs.PathSums.{path_sum, path_sum_left, path_sum_right, path_sum_cross}
 use Rattle.leaf_orders.specs.inner.LeafOrders.{most_sum, whole, at, LeastBetween}
-use Rattle.leaf_orders.specs.inner.Orders.{depth}
-use Rattle.leaf_orders.proofs.LeafOrders.{LaidOut, place_in, above_in}
+use Rattle.leaf_orders.specs.inner.Orders.{depth, LaidOut}
+use Rattle.leaf_orders.proofs.LeafOrders.{place_in, above_in}
 
 -- no node over s leaves is less deep than this
 unfoldable floor : (n s u : ℕ) → ℕ

@@ -19,8 +19,7 @@ use Rattle.listings.specs.inner.Children.{row_first, row_second}
 use Rattle.leaf_orders.specs.declared.Place.{Place}
 use Rattle.leaf_orders.specs.inner.LeafOrders.{whole}
 use Rattle.leaf_orders.specs.inner.Orders.{Prepared, Fits, left_of, right_of, ChildrenTold, nowhere, stands}
-use Rattle.leaf_orders.specs.inner.Orders.{NumbersPlaced}
-use Rattle.leaf_orders.proofs.LeafOrders.{LaidOut}
+use Rattle.leaf_orders.specs.inner.Orders.{NumbersPlaced, LaidOut}
 use Rattle.leaf_orders.proofs.Rows.{Row, row_subtree_at, size_le}
 
 -- A list with two entries stored.

@@ -18,8 +18,8 @@ use Rattle.trees.proofs.PathSums.{count_formula}
 use Rattle.trees.proofs.Rules.{on_leaves}
 use Rattle.leaf_orders.specs.declared.Place.{Place}
 use Rattle.leaf_orders.specs.inner.LeafOrders.{most_sum, whole, at, LeastBetween, IsLeafOrder}
-use Rattle.leaf_orders.specs.inner.Orders.{depth, Prepared, NumbersPlaced}
-use Rattle.leaf_orders.proofs.LeafOrders.{LaidOut, place_in, leaf_at, place_once, laid_same}
+use Rattle.leaf_orders.specs.inner.Orders.{depth, Prepared, NumbersPlaced, LaidOut, IsPlan}
+use Rattle.leaf_orders.proofs.LeafOrders.{place_in, leaf_at, place_once, laid_same}
 use Rattle.leaf_orders.proofs.Meeting.{meets}
 use Rattle.leaf_orders.proofs.Placing.{place_of, above_of, before_of, laid_under}
 use Rattle.leaf_orders.proofs.Rows.{pairs_small}
@@ -105,66 +105,71 @@ module _ (n : ℕ) (l : List ℕ) (count : IsLeafCount n) (keeps : KeepsRules n 
           (root_all n T on j lj) (root_all n T on k lk);
     }
 
-    -- with the leaves at their places, the order is made
-    module _ {places aboves leaves depths : List ℕ} (p : Placed numbers places aboves leaves depths n) where
-      abbrev before : ℕ → ℕ
-      before k = at depths (at places k)
-
-      laid : LaidOut n (at places) (at aboves) before W 0 0 0
+    -- with the leaves at their places, the plan is made
+    pub plan_made :
+        {places aboves leaves depths : List ℕ} → Placed numbers places aboves leaves depths n
+        → IsPlan n T places aboves leaves depths
+    plan_made {places} {aboves} {leaves} {depths} p = record {
       laid =
-          laid_same n (place_of numbers) (above_of numbers) (before_of numbers) (at places) (at aboves) before
+          laid_same n (place_of numbers) (above_of numbers) (before_of numbers) (at places) (at aboves)
+          (λ k. at depths (at places k))
           (λ k lk. (let q = p k lk in (q.place, q.above, ap (at depths) q.place ∙ q.before))) W 0 0 0
-          (root_within n T on (omega arith)) laid_whole
+          (root_within n T on (omega arith)) laid_whole;
+      placed = λ k lk. (let q = p k lk in ap (at leaves) q.place ∙ q.leaf);
+      small = λ k lk. omega (arith, (p k lk).above, (h.inside k (omega arith)).1);
+    }
 
-      leaf_there : (k : ℕ) → k < n → at leaves (at places k) ≡ k
-      leaf_there k lk = let q = p k lk in ap (at leaves) q.place ∙ q.leaf
+  -- by a plan the leaves are in order
+  module _ {places aboves leaves depths : List ℕ} (p : IsPlan n T places aboves leaves depths) where
+    abbrev before : ℕ → ℕ
+    before k = at depths (at places k)
 
-      place_below : (k : ℕ) → k < n → at places k < n
-      place_below k lk =
-          omega (arith, whole_size, (place_in n (at places) (at aboves) before W 0 0 0 laid k (root_all n T on k lk)).1)
+    place_below : (k : ℕ) → k < n → at places k < n
+    place_below k lk =
+        omega (arith, whole_size, (place_in n (at places) (at aboves) before W 0 0 0 p.laid k (root_all n T on k lk)).1)
 
-      -- the leaf at a place
-      stands_at : (s : ℕ) → s < n → (at leaves s < n) × (at places (at leaves s) ≡ s)
-      stands_at s ls =
-          let r =
-          leaf_at n (at places) (at aboves) before W 0 0 0 laid s (omega arith)
-          (omega (arith, whole_size)) in
-          let below = root_within n T on (omega arith) r.0 r.1 in
-          let here : at leaves s ≡ r.0 = ap (at leaves) (sym r.2) ∙ leaf_there r.0 below in
-          (rw here below, rw here r.2)
+    -- the leaf at a place
+    stands_at : (s : ℕ) → s < n → (at leaves s < n) × (at places (at leaves s) ≡ s)
+    stands_at s ls =
+        let r =
+        leaf_at n (at places) (at aboves) before W 0 0 0 p.laid s (omega arith)
+        (omega (arith, whole_size)) in
+        let below = root_within n T on (omega arith) r.0 r.1 in
+        let here : at leaves s ≡ r.0 = ap (at leaves) (sym r.2) ∙ p.placed r.0 below in
+        (rw here below, rw here r.2)
 
-      few_pairs : P n ≤ most_sum
-      few_pairs = pairs_small n count.1
+    few_pairs : P n ≤ most_sum
+    few_pairs = pairs_small n count.1
 
-      small : (k : ℕ) → k < n → at aboves k ≤ most_sum
-      small k lk = omega (arith, (p k lk).above, (h.inside k (omega arith)).1, few_pairs)
+    small : (k : ℕ) → k < n → at aboves k ≤ most_sum
+    small k lk = omega (arith, p.small k lk, few_pairs)
 
-      -- the count of the leaves at two places
-      told :
-          (s t m : ℕ) → s < t → t < n → LeastBetween depths s t m
-          → at aboves (at leaves s) + at aboves (at leaves t) + m ≡ quartets n T (at leaves s) (at leaves t) + whole
-      told s t m st tn least =
-          let i = stands_at s (omega arith) in
-          let j = stands_at t tn in
-          let apart : at leaves s ≢ at leaves t = λ e. omega (arith, sym i.1 ∙ ap (at places) e ∙ j.1) in
-          rw (count_formula n T (on_tree n T on) (at leaves s) (at leaves t) i.0 j.0 apart)
-          (elim (meets n few_pairs (at places) (at aboves) depths W 0 0 0 laid (root_distinct n T on)
-          (omega (arith, whole_size)) (at leaves s) (at leaves t) (root_all n T on (at leaves s) i.0)
-          (root_all n T on (at leaves t) j.0) apart (small (at leaves s) i.0) (small (at leaves t) j.0)) [
-            | inl q ↦ rw (i.1, j.1) at q.sum m least
-            | inr q ↦ absurd (omega (arith, q.in_order, i.1, j.1))
-          ])
+    -- the count of the leaves at two places
+    told :
+        (s t m : ℕ) → s < t → t < n → LeastBetween depths s t m
+        → at aboves (at leaves s) + at aboves (at leaves t) + m ≡ quartets n T (at leaves s) (at leaves t) + whole
+    told s t m st tn least =
+        let i = stands_at s (omega arith) in
+        let j = stands_at t tn in
+        let apart : at leaves s ≢ at leaves t = λ e. omega (arith, sym i.1 ∙ ap (at places) e ∙ j.1) in
+        rw (count_formula n T (on_tree n T on) (at leaves s) (at leaves t) i.0 j.0 apart)
+        (elim (meets n few_pairs (at places) (at aboves) depths W 0 0 0 p.laid (root_distinct n T on)
+        (omega (arith, whole_size)) (at leaves s) (at leaves t) (root_all n T on (at leaves s) i.0)
+        (root_all n T on (at leaves t) j.0) apart (small (at leaves s) i.0) (small (at leaves t) j.0)) [
+          | inl q ↦ rw (i.1, j.1) at q.sum m least
+          | inr q ↦ absurd (omega (arith, q.in_order, i.1, j.1))
+        ])
 
-      pub order_made : IsLeafOrder n T places aboves leaves depths
-      order_made = record {
-        few = count.1;
-        leaf_below = λ s ls. (stands_at s ls).0;
-        place_below = place_below;
-        leaf_there = leaf_there;
-        place_there = λ s ls. (stands_at s ls).1;
-        small = small;
-        told = told;
-      }
+    pub order_made : IsLeafOrder n T places aboves leaves depths
+    order_made = record {
+      few = count.1;
+      leaf_below = λ s ls. (stands_at s ls).0;
+      place_below = place_below;
+      leaf_there = p.placed;
+      place_there = λ s ls. (stands_at s ls).1;
+      small = small;
+      told = told;
+    }
 
 -- one leaf more at its place
 module _ {n : ℕ} (numbers : List Place) (j : ℕ) (own : OwnPlaces n (place_of numbers)) (lj : j < n) where

@@ -8,7 +8,7 @@ ghost use Rattle.limits.specs.Limits.{most_leaves, most_nodes, IsLeafCount};
 ghost use Rattle.pair_counts.specs.Pairs.{P};
 ghost use Rattle.trees.specs.Trees.{size};
 ghost use Rattle.trees.specs.Listings.{KeepsRules, subtree_at, tree_of};
-ghost use Rattle.leaf_orders.specs.inner.Orders.{Sized, Prepared, Fits, ChildrenTold, nowhere, NumbersPlaced};
+ghost use Rattle.leaf_orders.specs.inner.Orders.{Sized, Prepared, Fits, ChildrenTold, nowhere, NumbersPlaced, IsPlan};
 ghost use Rattle.leaf_orders.specs.inner.LeafOrders.{IsLeafOrder};
 
 use limits::{MOST_LEAVES, MOST_NODES};
@@ -144,7 +144,9 @@ impl<'a> LeafOrder<'a> {
     // Puts all n leaves in order. In place: a value of this size that is returned is copied twice.
     pub fn fill(&mut self, n: usize)
         requires { IsLeafCount n × KeepsRules n self.old.listing.now }
-        ensures { (self.new.n ≡ n) × (self.new.listing.now ≡ self.old.listing.now) }
+        ensures { (self.new.n ≡ n) × (self.new.listing.now ≡ self.old.listing.now)
+            × IsPlan n (tree_of n self.old.listing.now) self.new.places self.new.aboves self.new.leaves
+            self.new.depths }
     {
         let mut sizes = [1usize; MOST_NODES];
         let mut numbers = [Place {

@@ -8,10 +8,8 @@ use native.Mathlib.Decide.{ℕ_discrete}
 use lib.ListN.{length, set, length-set}
 use lib.Seq.{get_or-set_same, get_or-set_other}
 use Rattle.limits.specs.Limits.{most_leaves}
-use Rattle.leaf_orders.specs.declared.LeafOrder.{LeafOrder}
-use Rattle.leaf_orders.specs.inner.LeafOrders.{whole, most_depth, at, LeastBetween}
-use Rattle.least_depths.specs.inner.Depths.{After, Before, RowFound}
-use Rattle.least_depths.proofs.RowCounts.{leaf_once}
+use Rattle.leaf_orders.specs.inner.LeafOrders.{most_depth, at, LeastBetween}
+use Rattle.least_depths.specs.inner.Depths.{After, Before, OwnLeaves, LeastDepths, TopsFrom, RowFound}
 
 -- between a place and itself there is no depth
 pub shallowest_none : (depths : List ℕ) (p : ℕ) → LeastBetween depths p p most_depth
@@ -33,28 +31,25 @@ shallowest_more {depths} {t = t} {r} h down here greatest lo' hi' a b in_it of_i
 }
 
 -- the leaf at a place has what was stored for it, and those at other places keep theirs
-module _ (o : LeafOrder) (tops : List ℕ) (v s : ℕ) (ls : s < o.n) where
-  pub top_here : length tops ≡ most_leaves → at (set tops (at o.leaves s) v) (at o.leaves s) ≡ v
-  top_here long =
-      get_or-set_same tops (at o.leaves s) v 0 (omega (arith, o.ordered.leaf_below s ls, o.ordered.few))
+module _ {n : ℕ} {order : List ℕ} (o : OwnLeaves n order) (tops : List ℕ) (v s : ℕ) (ls : s < n) where
+  pub top_here : length tops ≡ most_leaves → at (set tops (at order s) v) (at order s) ≡ v
+  top_here long = get_or-set_same tops (at order s) v 0 (omega (arith, o.below s ls, o.few))
 
-  pub top_other :
-      (t : ℕ) → t < o.n → t ≢ s → at (set tops (at o.leaves s) v) (at o.leaves t) ≡ at tops (at o.leaves t)
-  top_other t lt d =
-      get_or-set_other tops (at o.leaves s) (at o.leaves t) v 0 (λ e. d (leaf_once o.ordered t s lt ls e))
+  pub top_other : (t : ℕ) → t < n → t ≢ s → at (set tops (at order s) v) (at order t) ≡ at tops (at order t)
+  top_other t lt d = get_or-set_other tops (at order s) (at order t) v 0 (λ e. d (o.once t s lt ls e))
 
 -- one place more, after p and before it; `tops'` has r stored for the leaf there
-module _ (o : LeafOrder) (tops tops' : List ℕ) (p t low r : ℕ) (long : length tops ≡ most_leaves) (down : r ≤ low)
-    (here : r ≤ at o.depths t) (greatest : (z : ℕ) → z ≤ low → z ≤ at o.depths t → z ≤ r) where
+module _ (n : ℕ) (order depths tops tops' : List ℕ) (p t low r : ℕ) (o : OwnLeaves n order)
+    (long : length tops ≡ most_leaves) (down : r ≤ low) (here : r ≤ at depths t)
+    (greatest : (z : ℕ) → z ≤ low → z ≤ at depths t → z ≤ r) where
   pub after_more :
-      p < t → t < o.n → LeastBetween o.depths p (t - 1) low → After o.leaves o.depths p tops t
-      → tops' ≡ set tops (at o.leaves t) r
-      → (length tops' ≡ most_leaves) × LeastBetween o.depths p (t + 1 - 1) r × After o.leaves o.depths p tops' (t + 1)
-      × ((s : ℕ) → s < o.n → s ≢ t → at tops' (at o.leaves s) ≡ at tops (at o.leaves s))
+      p < t → t < n → LeastBetween depths p (t - 1) low → After order depths p tops t → tops' ≡ set tops (at order t) r
+      → (length tops' ≡ most_leaves) × LeastBetween depths p (t + 1 - 1) r × After order depths p tops' (t + 1)
+      × ((s : ℕ) → s < n → s ≢ t → at tops' (at order s) ≡ at tops (at order s))
   after_more lp ln h old e =
       let next : t + 1 - 1 ≡ t = omega arith in
       rw (next, e) (
-        length-set tops (at o.leaves t) r ∙ long,
+        length-set tops (at order t) r ∙ long,
         new,
         λ s a b. elim (ℕ_discrete s t) [
           | yes q ↦ rw (q, top_here o tops r t ln long) new
@@ -63,18 +58,18 @@ module _ (o : LeafOrder) (tops tops' : List ℕ) (p t low r : ℕ) (long : lengt
         top_other o tops r t ln,
       )
     where
-      new : LeastBetween o.depths p t r
+      new : LeastBetween depths p t r
       new =
           shallowest_more h down here greatest p t lp (omega arith) (λ s a b. (a, omega arith)) (λ s a b.
           elim (ℕ_discrete s t) [ yes q ↦ inr q | no q ↦ inl (a, omega arith) ])
 
   pub before_more :
-      0 < t → t ≤ p → p < o.n → LeastBetween o.depths t p low → Before o.leaves o.depths p tops t
-      → tops' ≡ set tops (at o.leaves (t - 1)) r
-      → (length tops' ≡ most_leaves) × LeastBetween o.depths (t - 1) p r × Before o.leaves o.depths p tops' (t - 1)
-      × ((s : ℕ) → s < o.n → s ≢ t - 1 → at tops' (at o.leaves s) ≡ at tops (at o.leaves s))
+      0 < t → t ≤ p → p < n → LeastBetween depths t p low → Before order depths p tops t
+      → tops' ≡ set tops (at order (t - 1)) r
+      → (length tops' ≡ most_leaves) × LeastBetween depths (t - 1) p r × Before order depths p tops' (t - 1)
+      × ((s : ℕ) → s < n → s ≢ t - 1 → at tops' (at order s) ≡ at tops (at order s))
   before_more lt lp ln h old e = rw e (
-    length-set tops (at o.leaves (t - 1)) r ∙ long,
+    length-set tops (at order (t - 1)) r ∙ long,
     new,
     λ s a b. elim (ℕ_discrete s (t - 1)) [
       | yes q ↦ rw (q, top_here o tops r (t - 1) (omega arith) long) new
@@ -83,7 +78,7 @@ module _ (o : LeafOrder) (tops tops' : List ℕ) (p t low r : ℕ) (long : lengt
     top_other o tops r (t - 1) (omega arith),
   )
     where
-      new : LeastBetween o.depths (t - 1) p r
+      new : LeastBetween depths (t - 1) p r
       new =
           shallowest_more h down here greatest (t - 1) p (omega arith) lp (λ s a b. (omega arith, b)) (λ s a b.
           elim (ℕ_discrete s t) [ yes q ↦ inr q | no q ↦ inl (omega arith, b) ])
@@ -108,20 +103,28 @@ module _ {depths : List ℕ} {p t s m : ℕ} (less : at depths t ≤ at depths p
     greatest = λ z c g. h.greatest z c (λ v a b. g v a (omega arith));
   }
 
--- the leaf at p keeps its own number at last: so the row is found
+-- the leaf at p keeps its own number at last
+pub topped :
+    {n : ℕ} {order depths tops : List ℕ} {p own : ℕ} (tops₁ tops₂ : List ℕ) → OwnLeaves n order → p < n
+    → length tops₂ ≡ most_leaves → After order depths p tops₁ n → Before order depths p tops₂ 0
+    → ((s : ℕ) → p < s → s < n → at tops₂ (at order s) ≡ at tops₁ (at order s)) → tops ≡ set tops₂ (at order p) own
+    → LeastDepths n order depths p own tops
+topped {order = order} {p = p} {own = own} tops₁ tops₂ o lp long after before kept e = rw e (record {
+  long = length-set tops₂ (at order p) own ∙ long;
+  here = top_here o tops₂ own p lp long;
+  after = λ s a b. rw (top_other o tops₂ own p lp s b (omega arith) ∙ kept s a b) (after s a b);
+  before = λ s a. rw (top_other o tops₂ own p lp s (omega arith) (omega arith)) (before s (omega arith) a);
+})
+
+-- by the least depths from its place the row of a leaf is found
 pub row_found :
-    (o : LeafOrder) (tops₁ tops₂ : List ℕ) (p base : ℕ) → p < o.n → length tops₂ ≡ most_leaves
-    → After o.leaves o.depths p tops₁ o.n → Before o.leaves o.depths p tops₂ 0
-    → ((s : ℕ) → p < s → s < o.n → at tops₂ (at o.leaves s) ≡ at tops₁ (at o.leaves s))
-    → base ≡ at o.aboves (at o.leaves p)
-    → RowFound o.n p base o.aboves o.leaves o.depths (set tops₂ (at o.leaves p) (whole - (base + base)))
-row_found o tops₁ tops₂ p base lp long after before kept e =
-    let own = whole - (base + base) in
-    record {
-      place = lp;
-      above = e;
-      long = length-set tops₂ (at o.leaves p) own ∙ long;
-      here = top_here o tops₂ own p lp long;
-      after = λ s a b. rw (top_other o tops₂ own p lp s b (omega arith) ∙ kept s a b) (after s a b);
-      before = λ s z a. rw (top_other o tops₂ own p lp s (omega arith) (omega arith)) (before s z a);
-    }
+    {n : ℕ} {aboves leaves depths tops : List ℕ} {p base : ℕ} → p < n → base ≡ at aboves (at leaves p)
+    → TopsFrom n aboves leaves depths p tops → RowFound n p base aboves leaves depths tops
+row_found lp e t = record {
+  place = lp;
+  above = e;
+  long = t.long;
+  here = rw e t.here;
+  after = t.after;
+  before = λ s z a. t.before s a;
+}

@@ -1,12 +1,12 @@
--- What the functions that order the leaves of a tree promise to each other.
+-- What the functions that order the leaves of a tree promise to each other, and how the leaves are laid out at last.
 use Rattle.std.specs.Prelude.{◌≡◌, List, ℕ, ◌+◌, ◌-◌, ◌*◌, ◌≤◌, ◌<◌, length, get_or}
 use Rattle.limits.specs.Limits.{most_nodes, IsLeafCount}
 use Rattle.pair_counts.specs.Pairs.{P}
-use Rattle.trees.specs.Trees.{Tree, size}
+use Rattle.trees.specs.Trees.{Tree, leaf, node, size}
 use Rattle.listings.specs.inner.Children.{row_first, row_second}
 use Rattle.trees.specs.Listings.{KeepsRules, subtree_at}
 use Rattle.leaf_orders.specs.declared.Place.{Place}
-use Rattle.leaf_orders.specs.inner.LeafOrders.{whole}
+use Rattle.leaf_orders.specs.inner.LeafOrders.{whole, at}
 
 -- the number of leaves under each number of a listing
 abbrev pub Sized : ℕ → List ℕ → List ℕ → Type 0
@@ -64,3 +64,20 @@ pub record NumbersPlaced (n : ℕ) (l : List ℕ) (numbers : List Place) (c : �
   pub root : stands numbers (2 * n - 3) ≡ record { place = 1; above = 0; before = whole - P (n - 1) }
   pub firsts : (d : ℕ) → c ≤ d → d < 2 * n - 2 → stands numbers (row_first n l d) ≡ left_of n l d (stands numbers d)
   pub seconds : (d : ℕ) → c ≤ d → d < 2 * n - 2 → stands numbers (row_second n l d) ≡ right_of n l d (stands numbers d)
+
+-- a number's place, the pairs that branch off above it, and the depth before its first leaf are p, u and w
+abbrev pub PlacedAt : (place above before : ℕ → ℕ) (c p u w : ℕ) → Type 0
+PlacedAt place above before c p u w = (place c ≡ p) × (above c ≡ u) × (before c ≡ w)
+
+-- the leaves of a subtree follow one another from place p on
+abbrev pub LaidOut : (n : ℕ) (place above before : ℕ → ℕ) → Tree → (p u w : ℕ) → Type 0
+LaidOut n place above before (leaf k) p u w = PlacedAt place above before k p u w
+LaidOut n place above before (node A B) p u w =
+    LaidOut n place above before A p (u + P (size B)) w
+    × LaidOut n place above before B (p + size A) (u + P (size A)) (depth n A B u)
+
+-- the order of the leaves of a tree, leaf 0 put on, and the depths between them
+pub record IsPlan (n : ℕ) (T : Tree) (places aboves order depths : List ℕ) : Type 0 where
+  pub laid : LaidOut n (at places) (at aboves) (λ k. at depths (at places k)) (node (leaf 0) T) 0 0 0
+  pub placed : (k : ℕ) → k < n → at order (at places k) ≡ k
+  pub small : (k : ℕ) → k < n → at aboves k ≤ P n

@@ -15,6 +15,7 @@ loop-t-preserved c =
     let r = c.keep_least-low.ensures in
     let here : i.t - 1 + 1 ≡ i.t = omega arith in
     let next =
-    before_more a.order.now i.tops _ a.p i.t i.low c.keep_least-low.result i.invariant.0 r.0 (rw here at r.1)
-    (rw here at r.2) (omega arith) (omega arith) c.requires i.invariant.1 i.invariant.2 r.3 in
+    before_more a.n a.leaves.now a.depths.now i.tops _ a.p i.t i.low c.keep_least-low.result c.requires.0
+    i.invariant.0 r.0 (rw here at r.1) (rw here at r.2) (omega arith) (omega arith) c.requires.1 i.invariant.1
+    i.invariant.2 r.3 in
     (next.0, next.1, next.2, λ s l m. next.3 s m (omega arith) ∙ i.invariant.3 s l m)

@@ -9,7 +9,7 @@ use Rattle.least_depths.proofs.leftwards.Given as goal
 
 abbrev pub invariant-loop-t : goal.invariant-loop-t
 invariant-loop-t l =
-    (length l.tops ≡ most_leaves) × LeastBetween l.order.depths l.t l.p l.low
-    × Before l.order.leaves l.order.depths l.p l.tops l.t
-    × ((s : ℕ) → l.p < s → s < l.order.n
-    → at l.tops (at l.order.leaves s) ≡ at l.initial.tops (at l.order.leaves s))
+    (length l.tops ≡ most_leaves) × LeastBetween l.depths l.t l.p l.low
+    × Before l.leaves l.depths l.p l.tops l.t
+    × ((s : ℕ) → l.p < s → s < l.n
+    → at l.tops (at l.leaves s) ≡ at l.initial.tops (at l.leaves s))

@@ -11,10 +11,10 @@ use Rattle.least_depths.proofs.move_left.Given as goal
 
 abbrev pub invariant-loop-t : goal.invariant-loop-t
 invariant-loop-t l =
-    (l.t < l.p) × (length l.tops ≡ most_leaves) × LeastBetween l.order.depths l.t l.p l.low
-    × Before l.order.leaves l.order.depths l.p l.tops l.t
-    × ((s : ℕ) → (s < l.t) ⊎ (l.p < s) → s < l.order.n
-    → at l.tops (at l.order.leaves s) ≡ at l.initial.tops (at l.order.leaves s))
+    (l.t < l.p) × (length l.tops ≡ most_leaves) × LeastBetween l.depths l.t l.p l.low
+    × Before l.leaves l.depths l.p l.tops l.t
+    × ((s : ℕ) → (s < l.t) ⊎ (l.p < s) → s < l.n
+    → at l.tops (at l.leaves s) ≡ at l.initial.tops (at l.leaves s))
 
 abbrev pub decreases-loop-t : goal.decreases-loop-t
 decreases-loop-t l = l.t

@@ -20,8 +20,8 @@ loop-t-preserved c =
     let a = c.args in
     let r = c.keep_least-low.ensures in
     let next =
-    after_more a.order.now i.tops _ a.p i.t i.low c.keep_least-low.result i.invariant.2 r.0 r.1 r.2 i.invariant.0
-    c.loop-t-test.true i.invariant.3 i.invariant.4 r.3 in (
+    after_more a.n a.leaves.now a.depths.now i.tops _ a.p i.t i.low c.keep_least-low.result c.requires.0
+    i.invariant.2 r.0 r.1 r.2 i.invariant.0 c.loop-t-test.true i.invariant.3 i.invariant.4 r.3 in (
       omega arith,
       omega arith,
       next.0,
@@ -33,15 +33,15 @@ loop-t-preserved c =
       ],
     )
 
-pub returns-else-least-order : goal.returns-else-least-order
-returns-else-least-order c =
+pub returns-else-least-depths : goal.returns-else-least-depths
+returns-else-least-depths c =
     let i = c.loop-t in (
       λ v a b. elim (dec_lt v i.t) [
         | yes l ↦ i.invariant.4 v a l
         | no l ↦
             rw (i.invariant.5 v (inr (omega arith)) b)
-            (after_still {t = i.t} c.if-least-order.false c.requires.0 i.invariant.0 (omega arith)
-            (c.requires.2 v (omega arith) b))
+            (after_still {t = i.t} c.if-least-depths.false c.requires.1 i.invariant.0 (omega arith)
+            (c.requires.3 v (omega arith) b))
       ],
       λ v a. i.invariant.5 v (inl a) (omega arith),
     )

@@ -11,10 +11,10 @@ use Rattle.least_depths.proofs.move_right.Given as goal
 
 abbrev pub invariant-loop-t : goal.invariant-loop-t
 invariant-loop-t l =
-    (l.p < l.t) × (l.t ≤ l.order.n) × (length l.tops ≡ most_leaves) × LeastBetween l.order.depths l.p (l.t - 1) l.low
-    × After l.order.leaves l.order.depths l.p l.tops l.t
-    × ((s : ℕ) → (s < l.p) ⊎ (l.t ≤ s) → s < l.order.n
-    → at l.tops (at l.order.leaves s) ≡ at l.initial.tops (at l.order.leaves s))
+    (l.p < l.t) × (l.t ≤ l.n) × (length l.tops ≡ most_leaves) × LeastBetween l.depths l.p (l.t - 1) l.low
+    × After l.leaves l.depths l.p l.tops l.t
+    × ((s : ℕ) → (s < l.p) ⊎ (l.t ≤ s) → s < l.n
+    → at l.tops (at l.leaves s) ≡ at l.initial.tops (at l.leaves s))
 
 abbrev pub decreases-loop-t : goal.decreases-loop-t
-decreases-loop-t l = l.order.n - l.t
+decreases-loop-t l = l.n - l.t

@@ -16,6 +16,6 @@ loop-t-preserved c =
     let a = c.args in
     let r = c.keep_least-low.ensures in
     let next =
-    after_more a.order.now i.tops _ a.p i.t i.low c.keep_least-low.result i.invariant.0 r.0 r.1 r.2 (omega arith)
-    (omega arith) i.invariant.1 i.invariant.2 r.3 in
+    after_more a.n a.leaves.now a.depths.now i.tops _ a.p i.t i.low c.keep_least-low.result c.requires.0
+    i.invariant.0 r.0 r.1 r.2 (omega arith) (omega arith) i.invariant.1 i.invariant.2 r.3 in
     (next.0, next.1, next.2)

@@ -9,5 +9,5 @@ use Rattle.least_depths.proofs.rightwards.Given as goal
 
 abbrev pub invariant-loop-t : goal.invariant-loop-t
 invariant-loop-t l =
-    (length l.tops ≡ most_leaves) × LeastBetween l.order.depths l.p (l.t - 1) l.low
-    × After l.order.leaves l.order.depths l.p l.tops l.t
+    (length l.tops ≡ most_leaves) × LeastBetween l.depths l.p (l.t - 1) l.low
+    × After l.leaves l.depths l.p l.tops l.t

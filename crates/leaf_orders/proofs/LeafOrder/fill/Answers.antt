@@ -1,10 +1,12 @@
 -- `leaf_orders::LeafOrder::fill` meets its contract: the leaves below k stand at their places, which no other leaf has.
+use mathlib.Core.Path.{refl}
 use native.Mathlib.Omega.{arith}
 use lib.ListN.{length-set}
-use Rattle.leaf_orders.specs.inner.Orders.{Prepared}
+use Rattle.trees.specs.Listings.{tree_of}
+use Rattle.leaf_orders.specs.inner.Orders.{Prepared, IsPlan}
 use Rattle.leaf_orders.proofs.Placing.{place_of}
-use Rattle.leaf_orders.proofs.Planned.{OwnPlaces, own_places, order_made, there_small, placed_more}
-use Rattle.leaf_orders.proofs.LeafOrder.fill.Goals.{After-place_numbers}
+use Rattle.leaf_orders.proofs.Planned.{OwnPlaces, own_places, plan_made, order_made, there_small, placed_more}
+use Rattle.leaf_orders.proofs.LeafOrder.fill.Goals.{After-place_numbers, After-loop-k}
 use Rattle.leaf_orders.proofs.LeafOrder.fill.Goals as goal
 
 -- the leaves under each number are counted
@@ -39,12 +41,21 @@ loop-k-preserved c =
       placed_more _ l.k (own (goal.at.loop-k-preserved c).After-place_numbers) (omega arith) i.2 i.3 i.4 i.5 i.6,
     )
 
+-- with all leaves at their places the plan is made
+plan :
+    (c : After-loop-k)
+    → (let a = c.args in
+    let o = c.loop-k.self in
+    IsPlan a.n (tree_of a.n a.self.now.listing.now) o.places o.aboves o.leaves o.depths)
+plan c =
+    let p = c.requires in
+    plan_made _ _ p.0 p.1 (prepared (goal.at.invariant_of-self-2 c).After-place_numbers) c.place_numbers.ensures
+    (λ k lk. c.loop-k.invariant.6 k (omega arith))
+
 pub invariant_of-self-2 : goal.invariant_of-self-2
 invariant_of-self-2 c =
-    let i = c.loop-k.invariant in
     let p = c.requires in
-    rw i.1 (record {
-      ordered =
-          order_made _ _ p.0 p.1 (prepared (goal.at.invariant_of-self-2 c).After-place_numbers)
-          c.place_numbers.ensures (λ k lk. i.6 k (omega arith));
-    })
+    rw c.loop-k.invariant.1 (record { ordered = order_made _ _ p.0 p.1 (plan c) })
+
+pub returns : goal.returns
+returns c = (refl, c.loop-k.invariant.1, plan (goal.at.returns c).After-loop-k)
