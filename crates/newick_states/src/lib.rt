@@ -37,7 +37,7 @@ pub const DEEPEST: usize = MOST_LEAVES - 1;
 pub fn is_blank(b: u8) -> bool
     ensures { result ≡ blank b }
 {
-    matches!(b, b' ' | b'\n' | b'\r' | b'\t')
+    b == b' ' || b == b'\n' || b == b'\r' || b == b'\t'
 }
 
 // The bytes of a length, as a set: bit k stands for byte b'+' + k.

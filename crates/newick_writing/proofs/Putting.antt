@@ -2,10 +2,11 @@
 -- there is room for bytes, there is for the first of them; once these are put, for the rest.
 use mathlib.Core.Path.{◌≡◌, sym, ◌∙◌}
 use mathlib.Core.List.{List, [], ◌∷◌, ◌++◌, append_assoc}
-use Prim.Native.Nat.{ℕ, ◌+◌, ◌-◌, ◌*◌, ◌≤◌, ◌<◌}
+use Prim.Native.Nat.{ℕ, suc, ◌+◌, ◌-◌, ◌*◌, ◌≤◌, ◌<◌}
+use native.Mathlib.Nat.{add-zero}
 use native.Mathlib.Omega.{arith}
-use lib.ListN.{length, get_or, take, drop, length-append}
-use lib.Seq.{sets, sets-eq, length-sets, drop-drop}
+use lib.ListN.{length, get_or, take, drop, set, length-append}
+use lib.Seq.{sets, length-sets, drop-cons}
 use Rattle.base.proofs.Lists.{sets_append}
 use Rattle.trees.specs.Listings.{tree_of}
 use Rattle.standard_listings.specs.inner.Standardising.{standard_first, standard_second, AtNode, InOrder}
@@ -37,13 +38,25 @@ room_on x y r p = record { enough = omega (arith, r.enough, length-append x y, p
 room_byte : (b : ℕ) {y : List ℕ} {at : ℕ} {t : List ℕ} → Room ((b ∷ []) ++ y) at t → at < length t
 room_byte b r = omega (arith, r.enough)
 
--- bytes in the place of as many
-pub put_over :
-    (x t : List ℕ) (at many : ℕ) → length x ≡ many → at + length x ≤ length t
-    → take at t ++ (x ++ drop (at + many - at) (drop at t)) ≡ sets t at x
-put_over x t at many e h =
-    let same : at + many - at ≡ length x = omega (arith, e) in
-    rw (same, drop-drop (length x) at t) (sym (sets-eq x t at h ∙ append_assoc (take at t) x _))
+-- What is left to put of m bytes of S from a on, once k of them are put.
+abbrev pub left_put : (S : List ℕ) (a m at : ℕ) (t : List ℕ) (k : ℕ) → List ℕ
+left_put S a m at t k = sets t (at + k) (take (m - k) (drop (a + k) S))
+
+pub left_more :
+    (S : List ℕ) (a m at : ℕ) (t : List ℕ) (k : ℕ) → k < m → a + m ≤ length S
+    → left_put S a m at (set t (at + k) (get_or S (a + k) 0)) (k + 1) ≡ left_put S a m at t k
+left_more S a m at t k h l =
+    let e : m - k ≡ suc (m - (k + 1)) = omega arith in
+    let f : a + (k + 1) ≡ suc (a + k) = omega arith in
+    let g : at + (k + 1) ≡ suc (at + k) = omega arith in
+    rw (e, f, g, drop-cons S (a + k) 0 (omega arith))
+
+pub left_whole :
+    (S : List ℕ) (a m at : ℕ) (t : List ℕ) → left_put S a m at t 0 ≡ sets t at (take m (drop a S))
+left_whole S a m at t = let e : m - 0 ≡ m = omega arith in rw (e, add-zero a, add-zero at)
+
+pub left_none : (S : List ℕ) (a m at : ℕ) (t : List ℕ) (k : ℕ) → m ≤ k → left_put S a m at t k ≡ t
+left_none S a m at t k h = let e : m - k ≡ 0 = omega arith in rw e
 
 regrouped :
     (x a b : List ℕ)

@@ -23,6 +23,17 @@ fn put(b: u8, at: usize, text: &mut [u8]) -> usize
     at + 1
 }
 
+// Puts so many bytes of the sheet, from a place on, into the text. One by one: they are those of a name, and a copy of
+// any length would be a call of the C library's memmove.
+fn put_bytes(sheet: &[u8], from: usize, many: usize, at: usize, text: &mut [u8])
+    requires { (from + many ≤ length sheet.now) × (at + many ≤ length text.old) }
+    ensures { text.new ≡ sets text.old at (take many (drop from sheet.now)) }
+{
+    for k in 0..many {
+        text[at + k] = sheet[from + k];
+    }
+}
+
 // Puts the name of a leaf.
 fn put_name(
     sheet: &[u8],
@@ -36,7 +47,7 @@ fn put_name(
 {
     let start = usize::from(starts[leaf]);
     let many = usize::from(sheet[start]);
-    text[at..at + many].copy_from_slice(&sheet[start + 1..start + 1 + many]);
+    put_bytes(sheet, start + 1, many, at, text);
     at + many
 }
 

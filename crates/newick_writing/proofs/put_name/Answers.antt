@@ -1,11 +1,10 @@
 -- `newick_writing::put_name` meets its contract: the name stands behind its length byte.
 use mathlib.Core.Path.{◌≡◌, sym, ap, ◌∙◌}
-use Prim.Native.Nat.{◌+◌, ◌-◌, ◌≤◌}
+use Prim.Native.Nat.{◌≤◌}
 use native.Mathlib.Omega.{arith}
 use lib.ListN.{length}
 use Rattle.sheet_rules.specs.Sheets.{name_at, next_name, name_start, name}
 use Rattle.sheet_rules.proofs.Names.{start_name, name_length}
-use Rattle.newick_writing.proofs.Putting.{put_over}
 use Rattle.newick_writing.proofs.put_name.Goals.{After-from-many}
 use Rattle.newick_writing.proofs.put_name.Goals as goal
 
@@ -24,21 +23,17 @@ module _ (c : After-from-many) where
       length (name a.sheet.now a.leaf) ≡ c.from-many.result
   many = sym (ap length (start_name _ _ starts)) ∙ name_length _ _ ends ∙ sym c.from-many.ensures
 
-pub slice_bounds-copy_from_slice-end : goal.slice_bounds-copy_from_slice-end
-slice_bounds-copy_from_slice-end c =
-    let here = (goal.at.slice_bounds-copy_from_slice-end c).After-from-many in
-    omega (arith, many here, here.before.requires.room.enough)
+pub put_bytes-requires : goal.put_bytes-requires
+put_bytes-requires c =
+    let here = (goal.at.put_bytes-requires c).After-from-many in
+    let byte = c.from-many.ensures in
+    (omega (arith, ends here, byte), omega (arith, many here, here.before.requires.room.enough))
 
 pub returns : goal.returns
 unfolding name_at
 returns c =
     let here = (goal.at.returns c).After-from-many in
-    let S = c.args.sheet.now in
-    let start = c.from-start.result in
-    let gap : start + 1 + c.from-many.result - (start + 1) ≡ c.from-many.result = omega arith in
-    let word : c.copy_from_slice.new.self ≡ name S c.args.leaf =
-    c.copy_from_slice.ensures.after ∙ rw (gap, c.from-many.ensures) (start_name _ _ (starts here)) in
     record {
       next = rw (many here);
-      bytes = rw word (put_over _ _ _ _ (many here) here.before.requires.room.enough);
+      bytes = c.put_bytes.ensures ∙ rw (c.from-many.ensures, ← start_name _ _ (starts here));
     }
