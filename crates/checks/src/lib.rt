@@ -1,7 +1,7 @@
 // What is judged of sizes and questions: 1, 2, 3 and 9; and how long a listing, a table and splits are due to be.
 #![tactic(auto)]
 
-ghost use Rattle.std.specs.Prelude.{◌≡◌, ◌-◌, ◌*◌};
+ghost use Rattle.std.specs.Prelude.{◌≡◌, ◌-◌, ◌*◌, Ok, Err, MatchResult};
 ghost use Rattle.limits.specs.declared.Kind.TheVariants.{Counts};
 ghost use Rattle.limits.specs.Limits.{IsLeafCount, set_bytes};
 ghost use Rattle.refusals.specs.Refusals.{outcome_of};
@@ -61,12 +61,19 @@ pub fn judge_sizes(
     Ok(())
 }
 
-// A lent input by value: 2 where it is not exactly as long as the value.
+// A lent input of a fixed length: 2 where it has another. It is not copied, so that the caller loads it in one go.
 #[tactic(auto, using(crate::proofs::Sizes::value_fits, crate::proofs::Sizes::value_off))]
+pub fn of_length<T, const N: usize>(lent: &[T]) -> Result<&[T; N], Refusal>
+    ensures { MatchResult result (λ x. Ok x.now ≡ by_value N lent.now) (λ r. Err r ≡ by_value N lent.now) }
+{
+    <&[T; N]>::try_from(lent).map_err(|_| Refusal::InputLength)
+}
+
+// The same by value.
 pub fn by_value<T: Copy, const N: usize>(lent: &[T]) -> Result<[T; N], Refusal>
     ensures { result ≡ by_value N lent.now }
 {
-    <[T; N]>::try_from(lent).map_err(|_| Refusal::InputLength)
+    Ok(*of_length(lent)?)
 }
 
 // So many numbers for each leaf but some. They are bytes, so that the product fits at every leaf count.

@@ -17,12 +17,12 @@ pub fn combine(what: Combination, a: &[u8], b: &[u8], out: &mut [u8]) -> Result<
         ≡ written (combine_answer what a.now b.now (length out.old))
         out.old }
 {
-    let first = checks::by_value(a)?;
-    let second = checks::by_value(b)?;
+    let first = checks::of_length(a)?;
+    let second = checks::of_length(b)?;
     if out.len() < SET_BYTES {
         return Err(Refusal::OutputRoom);
     }
-    sets::put_set(out, 0, sets::combine(what, first, second));
+    sets::put_set(out, 0, sets::combine(what, *first, *second));
     Ok(())
 }
 
@@ -30,5 +30,5 @@ pub fn combine(what: Combination, a: &[u8], b: &[u8], out: &mut [u8]) -> Result<
 pub fn equal(a: &[u8], b: &[u8]) -> Result<bool, Refusal>
     ensures { result ≡ returned (equal_answer a.now b.now) }
 {
-    Ok(sets::equal(checks::by_value(a)?, checks::by_value(b)?))
+    Ok(sets::equal(*checks::of_length(a)?, *checks::of_length(b)?))
 }
