@@ -3,7 +3,9 @@
 #![tactic(auto)]
 
 ghost use Rattle.std.specs.Prelude.{◌≡◌};
+ghost use Rattle.std.specs.Borrow.{sem};
 ghost use Rattle.rerooted_rows.specs.inner.Arrays.{none_joined, JoinFits, Joins, with_chain, ChainFits};
+ghost use Rattle.rerooted_rows.specs.inner.Lending.{LeavesFinished};
 
 use limits::{MOST_LEAVES, MOST_NUMBERS};
 
@@ -52,10 +54,12 @@ impl Rerooting {
         }
     }
 
-    // Writes the rows that the chain makes behind the others: then all of them are a listing. For the crates above.
+    // Writes the rows that the chain makes behind the others: then all of them are a listing, which is lent. Nothing
+    // else changes. For the crates above.
     pub fn finish(&mut self, n: usize) -> &[u16]
         requires { ChainFits n self.old }
-        ensures { result.now ≡ with_chain n self.old }
+        ensures* after { sem 𝓛 (LeavesFinished n self.entry) }
+        ensures rows { result.now ≡ with_chain n self.old }
     {
         let last = self.chained - 1;
         let end = self.made + last;

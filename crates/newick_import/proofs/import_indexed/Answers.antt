@@ -34,7 +34,7 @@ finish-requires c = rw c.len-n.ensures (read (goal.at.finish-requires c).In_ok-d
 pub standard_rows-requires : goal.standard_rows-requires
 standard_rows-requires c =
     let drawn = (read (goal.at.standard_rows-requires c).In_ok-drawn).1 in
-    rw (c.finish.ensures, c.len-n.ensures) (c.requires.0, drawn.keeps, c.requires.3)
+    rw (c.finish.ensures.rows, c.len-n.ensures) (c.requires.0, drawn.keeps, c.requires.3)
 
 pub returns : goal.returns
 returns c =
@@ -43,6 +43,6 @@ returns c =
       answer = sym said.0;
       buffer =
           c.standard_rows.ensures
-          ∙ rw (c.finish.ensures, c.len-n.ensures)
+          ∙ rw (c.finish.ensures.rows, c.len-n.ensures)
           (sym (import_done _ _ c.requires.0 c.requires.2.many said.0 said.1 _));
     }

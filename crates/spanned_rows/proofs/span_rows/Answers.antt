@@ -53,14 +53,14 @@ pub copy_from_slice-requires : goal.copy_from_slice-requires
 copy_from_slice-requires c =
     let here = (goal.at.copy_from_slice-requires c).After-join_rows-joined in
     length-take-le _ _ (omega (arith, new_count here, c.requires.3))
-    ∙ sym (ap length c.finish.ensures ∙ written here)
+    ∙ sym (ap length c.finish.ensures.rows ∙ written here)
 
 pub returns : goal.returns
 returns c =
     let here = (goal.at.returns c).After-join_rows-joined in
     let rest = drop (2 * (c.number_leaves-m.result - 2)) c.args.rows.now in
     let left = length-drop (2 * (c.number_leaves-m.result - 2)) c.args.rows.now in
-    let all = c.copy_from_slice.ensures.after ∙ c.finish.ensures in
+    let all = c.copy_from_slice.ensures.after ∙ c.finish.ensures.rows in
     let both = length-append c.copy_from_slice.new.self rest in
     span_end _ c.requires.0 c.requires.1 (new_count here) c.number_leaves-m.ensures.count (joined here) rest _ (rw all)
     (omega (arith, both, left, ap length all, written here, new_count here, c.requires.3))

@@ -8,7 +8,7 @@ use lib.ListN.{length, replicate, length-replicate, get_or-replicate}
 use lib.Pow.{shl_exact}
 use Rattle.limits.specs.Limits.{most_nodes}
 use Rattle.pairings.proofs.Questions.{question_below, question_four}
-use Rattle.pairings.proofs.Sides.{puts, length_puts, bits_put}
+use Rattle.pairings.proofs.Sides.{puts, bits_put}
 use Rattle.pairings.proofs.question.leaf_bits.Goals as goal
 
 -- the array before a leaf is put
@@ -36,7 +36,5 @@ returns c =
     let all : c.loop-i.i ≡ 4 = omega arith in
     let few : a.n ≤ most_nodes = omega (arith, c.requires.0) in
     let four = question_four a.n a.q (omega arith) c.requires.1 in
-    rw (c.loop-i.invariant, all) (
-      length_puts a.q _ long 4,
-      bits_put a.q _ long a.n few (λ k l. get_or-replicate {A = ℕ} most_nodes k 0 0 (omega arith)) four,
-    )
+    rw (c.loop-i.invariant, all)
+    (bits_put a.q _ long a.n few (λ k l. get_or-replicate {A = ℕ} most_nodes k 0 0 (omega arith)) four)
