@@ -9,7 +9,7 @@ use Rattle.packed_tables.specs.Packed.{table_with}
 use Rattle.sheet_rules.specs.Sheets.{leaves_of, cells_of}
 use Rattle.sheets.proofs.Judged.{other_room, short_room}
 use Rattle.sheet_tables.specs.Operations.{sheet_table_answer}
-use Rattle.sheet_tables.proofs.PackedSheet.{is_packed, sheet_cells}
+use Rattle.sheet_tables.proofs.PackedSheet.{is_packed, kept_cells}
 use Rattle.sheet_tables.proofs.TableWritten.{table_written}
 use Rattle.sheet_tables.proofs.table_of.Goals.{Then-out-n, Else-out-n, After-write_table}
 use Rattle.sheet_tables.proofs.table_of.Goals as goal
@@ -46,7 +46,7 @@ made :
 unfolding written
 made c =
     (rw (c.leaves-n.ensures.0, c.cells-cells.ensures.cells) at c.write_table.ensures)
-    ∙ table_written _ _ (sheet_cells _ c.cells-cells.ensures.kept)
+    ∙ table_written _ _ (kept_cells _ c.cells-cells.ensures.kept)
 
 pub returns : goal.returns
 unfolding sheet_table_answer answered outcome
