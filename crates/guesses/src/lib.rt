@@ -83,7 +83,8 @@ fn sheet_guess(sheet: &JudgedSheet, out: &mut [u16]) -> u64
 {
     let n = sheet.leaves();
     let mut table = [0u32; limits::MOST_CELLS];
-    sheet_tables::table_of(sheet, &mut table);
+    // The array has room for the table of any sheet, so that it is never refused.
+    let _ = sheet_tables::table_of(sheet, &mut table);
     let cells = n * n;
     guess_trees::guess_tree(Kind::Counts, n, &table[..cells], out)
 }

@@ -18,7 +18,7 @@ mod compare;
 pub const HASHES: u64 = 4294967296;
 
 // Two buckets a leaf, so that most hold one name at most.
-const BUCKETS: usize = 2 * MOST_LEAVES;
+pub const BUCKETS: usize = 2 * MOST_LEAVES;
 
 // The index of the first names of a sheet, no two of them equal: where the chain of each bucket begins, where it goes
 // on from each leaf, and where each name starts. A chain has 1 + a leaf, and 0 where it ends. Two arrays of the leaves,

@@ -44,7 +44,7 @@ pub fn is_blank(b: u8) -> bool
 const LENGTH_BYTES: u64 = 0x0400000004007fed;
 
 // A byte that a length may have: a digit, a full stop, a sign, E or e.
-#[tactic(auto, using(crate::proofs::LengthBytes::length_within, crate::proofs::LengthBytes::length_outside))]
+#[tactic(auto, using(crate::proofs::LengthBytes::length_outside))]
 pub fn is_length_byte(b: u8) -> bool
     ensures { result ≡ length_byte b }
 {

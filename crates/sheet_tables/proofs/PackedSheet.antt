@@ -1,8 +1,8 @@
 -- A sheet's cells are a packed table: the bytes from the offset to the trailer.
-use mathlib.Core.Path.{◌≡◌, ◌∙◌}
+use mathlib.Core.Path.{◌≡◌, refl, ap, sym, ◌∙◌}
 use mathlib.Core.List.{List}
 use mathlib.Core.Option.{none}
-use Prim.Native.Nat.{ℕ, ◌+◌, ◌*◌, ◌≤◌, ◌<◌}
+use Prim.Native.Nat.{ℕ, ◌+◌, ◌-◌, ◌*◌, ◌≤◌, ◌<◌}
 use native.Mathlib.Omega.{arith}
 use lib.ListN.{length, get_or, take, drop, length-drop}
 use lib.Seq.{length-take-le, get_or-take, get_or-drop}
@@ -45,7 +45,19 @@ module _ (S : List ℕ) (n o : ℕ) (h : o + cell_bytes n ≤ length S) where
             number_two S (o + 2 * k),
           )
 
--- those of a sheet that keeps the rules
+-- from the place o to the place m behind it are m bytes
+between : (o m : ℕ) → o + m - o ≡ m
+between o m = omega arith
+
+-- those of a sheet, by its trailer's figures
+pub sheet_cells :
+    (S : List ℕ) {n o : ℕ} → n ≡ leaves_of S → o ≡ offset_of S → o + cell_bytes n ≤ length S
+    → packed_cells n (take (o + cell_bytes n - o) (drop o S)) ≡ cells_of S
+unfolding cells_of
+sheet_cells S {n} {o} e f h =
+    ap (λ k. packed_cells n (take k (drop o S))) (between o (cell_bytes n)) ∙ same_cells S n o h ∙ rw (e, f)
+
+-- and of a sheet that keeps the rules: they end in it
 module _ (S : List ℕ) (h : sheet_refusal S 0 0 ≡ none) where
   ends_in : offset_of S + cell_bytes (leaves_of S) ≤ length S
   ends_in = omega (arith, (accepted_here S 0 0 h).sum)
@@ -53,6 +65,7 @@ module _ (S : List ℕ) (h : sheet_refusal S 0 0 ≡ none) where
   pub is_packed : Packed (leaves_of S) (packed_of S)
   is_packed = ((accepted_here S 0 0 h).count, long S (leaves_of S) (offset_of S) ends_in)
 
-  pub sheet_cells : packed_cells (leaves_of S) (packed_of S) ≡ cells_of S
-  unfolding cells_of
-  sheet_cells = same_cells S (leaves_of S) (offset_of S) ends_in
+  pub kept_cells : packed_cells (leaves_of S) (packed_of S) ≡ cells_of S
+  kept_cells =
+      let so_many = sym (between (offset_of S) (cell_bytes (leaves_of S))) in
+      ap (λ k. packed_cells (leaves_of S) (take k (drop (offset_of S) S))) so_many ∙ sheet_cells S refl refl ends_in

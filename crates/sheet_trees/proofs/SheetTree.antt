@@ -14,7 +14,7 @@ use Rattle.sheet_rules.specs.Sheets.{leaves_of, cells_of}
 use Rattle.sheet_rules.specs.Operations.{sheet_refusal}
 use Rattle.sheets.specs.inner.Figures.{packed_of}
 use Rattle.sheets.proofs.Judged.{accepted_here}
-use Rattle.sheet_tables.proofs.PackedSheet.{is_packed, sheet_cells}
+use Rattle.sheet_tables.proofs.PackedSheet.{is_packed, kept_cells}
 use Rattle.sheet_trees.specs.Operations.{sheet_tree}
 
 -- our own rebuild of it
@@ -34,4 +34,4 @@ unfolding packed_answer sheet_tree
 rebuilt_in_place S room h enough =
     let packed = is_packed S h in
     unless_passed _ _ (none_refused (leaves_of S) (packed_of S) room packed.0 packed.1 enough)
-    ∙ rw (sheet_cells S h)
+    ∙ rw (kept_cells S h)

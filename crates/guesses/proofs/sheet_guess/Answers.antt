@@ -20,12 +20,6 @@ counted c = rw c.leaves-n.ensures.0 at c.leaves-n.ensures.1
 few : (c : After-leaves-n) → let n = c.leaves-n.result in n * n ≤ most_cells
 few c = rw c.leaves-n.ensures.0 (few_cells _ (counted c))
 
-pub table_of-requires : goal.table_of-requires
-table_of-requires c =
-    let here = (goal.at.table_of-requires c).After-leaves-n in
-    let enough = few_cells _ (counted here) in
-    omega (arith, enough)
-
 pub overflow_mul-cells : goal.overflow_mul-cells
 overflow_mul-cells c = omega (arith, few (goal.at.overflow_mul-cells c).After-leaves-n)
 
@@ -37,7 +31,7 @@ the_table :
     (c : After-table_of)
     → (let S = c.args.sheet.now in
     let n = leaves_of S in IsLeafCount n → take (n * n) c.table_of.new.out ≡ table_with n (cells_of S))
-the_table c count = rw c.table_of.ensures (table_in_front _ count _)
+the_table c count = rw (c.table_of.ensures.made (omega (arith, few_cells _ count))).1 (table_in_front _ count _)
 
 pub slice_bounds-guess_tree-end : goal.slice_bounds-guess_tree-end
 slice_bounds-guess_tree-end c =

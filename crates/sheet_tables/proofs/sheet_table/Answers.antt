@@ -1,15 +1,14 @@
 -- `sheet_tables::sheet_table` meets its contract: nothing is written before the sheet is judged, and then its table is.
-use mathlib.Core.Path.{◌≡◌, refl}
+use mathlib.Core.Path.{◌≡◌}
 use Prim.Native.Nat.{◌*◌, ◌≤◌}
 use native.Mathlib.Nat.{mul-le-mul}
 use native.Mathlib.Omega.{arith}
 use lib.ListN.{length}
-use Rattle.refusals.specs.Refusals.{answered, outcome, returned}
+use Rattle.refusals.specs.Refusals.{answered, returned}
 use Rattle.packed_tables.specs.Packed.{table_with}
 use Rattle.sheet_rules.specs.Sheets.{leaves_of, cells_of}
 use Rattle.sheet_rules.specs.Operations.{sheet_refusal}
-use Rattle.name_checks.proofs.Tells.{tells_none, tells_this, tells_answered}
-use Rattle.sheets.proofs.Judged.{accepted_here}
+use Rattle.name_checks.proofs.Tells.{tells_this, tells_answered}
 use Rattle.sheet_tables.specs.Operations.{sheet_table_answer}
 use Rattle.sheet_tables.proofs.sheet_table.Goals.{After-judge}
 use Rattle.sheet_tables.proofs.sheet_table.Goals as goal
@@ -35,15 +34,8 @@ returns-in_err-judged c =
     (table_with (leaves_of S) (cells_of S)) c.args.out.now c.from_residual.ensures in
     record { answer = both.0; buffer = both.1 }
 
-pub table_of-requires : goal.table_of-requires
-table_of-requires c =
-    let told = says (goal.at.table_of-requires c).After-judge in
-    rw (tells_this _ _ told c.in_ok-judged.was)
-    (accepted_here _ _ _ (tells_none _ _ told c.in_ok-judged.was)).room_enough
-
 pub returns : goal.returns
-unfolding sheet_table_answer answered outcome
 returns c =
     let told = says (goal.at.returns c).After-judge in
     let made = rw (tells_this _ _ told c.in_ok-judged.was) at c.table_of.ensures in
-    rw (tells_none _ _ told c.in_ok-judged.was) (record { answer = refl; buffer = made })
+    record { answer = made.answer; buffer = made.buffer }
