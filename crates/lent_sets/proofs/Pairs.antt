@@ -1,13 +1,14 @@
--- Two lent sets and the room for a third: what is refused where one does not fit, and that nothing is where all fit.
-use mathlib.Core.Path.{◌≡◌, ◌∙◌}
+-- Two lent sets and the room for a third: what is refused where one does not fit, that nothing is where all fit, and
+-- what fits where nothing is refused.
+use mathlib.Core.Path.{◌≡◌, sym, ◌∙◌}
 use mathlib.Core.Option.{none, some}
 use Prim.Native.Nat.{ℕ, ◌≤◌, ◌<◌}
 use Rattle.limits.specs.Limits.{set_bytes}
 use Rattle.refusals.specs.declared.Refusal.{Refusal}
 use Rattle.refusals.specs.declared.Refusal.TheVariants.{OutputRoom}
-use Rattle.refusals.proofs.Answers.{judged_stops, judged_passes, judged_alone}
+use Rattle.refusals.proofs.Answers.{judged_stops, judged_passes, judged_none, judged_alone}
 use Rattle.checks.specs.Sizes.{length_refusal}
-use Rattle.checks.proofs.Sizes.{room_stops, room_passes}
+use Rattle.checks.proofs.Sizes.{length_right, room_stops, room_passes, room_right}
 use Rattle.lent_sets.specs.Operations.{pair_refusal, sets_refusal}
 
 module _ (a b : ℕ) where
@@ -36,3 +37,14 @@ module _ (a b : ℕ) where
     pub all_fit : pair_refusal a b ≡ none → set_bytes ≤ room → sets_refusal a b room ≡ none
     unfolding sets_refusal
     all_fit h l = judged_passes _ h ∙ judged_alone _ ∙ room_passes _ _ l
+
+pub pair_fine : (a b : ℕ) → pair_refusal a b ≡ none → (a ≡ set_bytes) × (b ≡ set_bytes)
+unfolding pair_refusal
+pair_fine a b h =
+    let r = judged_none (length_refusal set_bytes a) _ h in
+    (length_right set_bytes a r.0, length_right set_bytes b (sym (judged_alone _) ∙ r.1))
+
+pub sets_fine : (a b room : ℕ) → sets_refusal a b room ≡ none → (pair_refusal a b ≡ none) × (set_bytes ≤ room)
+unfolding sets_refusal
+sets_fine a b room h =
+    let r = judged_none (pair_refusal a b) _ h in (r.0, room_right set_bytes room (sym (judged_alone _) ∙ r.1))
