@@ -17,12 +17,16 @@ use refusals::Refusal;
 // The highest pairing code.
 const LAST_CODE: u8 = 6;
 
-// The quartet due, its leaves in one number, and what is kept back for the cells of the first three, three numbers in
-// one.
+// The quartet due, and what is ready for its record: its leaves in one number, where the rows of its first three leaves
+// begin among the sums, and what is kept back for the cells of these three, three numbers in one. The rows go from
+// record to record: with a product for each cell a poll takes 1.2 times as long.
 #[derive(Clone, Copy)]
 pub struct Due {
     pub quartet: Quartet,
     pub leaves: usize,
+    pub first: usize,
+    pub second: usize,
+    pub third: usize,
     pub kept: u32,
 }
 
@@ -36,13 +40,16 @@ fn packed(q: Quartet) -> usize
 }
 
 // A quartet with new first leaves is due, and nothing is kept back. For the crates above.
-pub fn begin(q: Quartet) -> Due
-    requires { Polled q }
-    ensures { result ≡ fresh q }
+pub fn begin(n: usize, q: Quartet) -> Due
+    requires { (n ≤ most_polled) × Polled q }
+    ensures { result ≡ fresh n q }
 {
     Due {
         quartet: q,
         leaves: packed(q),
+        first: q.a * n,
+        second: q.b * n,
+        third: q.c * n,
         kept: 0,
     }
 }

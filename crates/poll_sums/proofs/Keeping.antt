@@ -19,8 +19,15 @@ use Rattle.poll_sums.specs.inner.Sums.{Ready, most_given, Grown, Added}
 use Rattle.poll_sums.proofs.Sums.{whole, parts_together, parts_add, dealt_none, dealt_add, adds_dealt}
 
 -- what is ready for a quartet with new first leaves
-pub fresh_ready : (n : ℕ) (q : Quartet) → Ready n (fresh q)
-fresh_ready n q = record { leaves = refl; kept = (omega arith, omega arith, omega arith); ended = λ h. refl }
+pub fresh_ready : (n : ℕ) (q : Quartet) → Ready n (fresh n q)
+fresh_ready n q = record {
+  leaves = refl;
+  first = refl;
+  second = refl;
+  third = refl;
+  kept = (omega arith, omega arith, omega arith);
+  ended = λ h. refl;
+}
 
 each_le : (m w : ℕ) → EachAtMost m w → w ≤ together m m m
 each_le m w h = omega (arith, whole w, h)
@@ -58,7 +65,14 @@ module _ (n : ℕ) (due : Due) (l : Leaves n due.quartet.a due.quartet.b due.qua
 
   -- the same three leaves go on: the shares are kept back too
   abbrev on : Due
-  on = record { quartet = four q.a q.b q.c (q.d + 1); leaves = due.leaves + 16777216; kept = due.kept + w }
+  on = record {
+    quartet = four q.a q.b q.c (q.d + 1);
+    leaves = due.leaves + 16777216;
+    first = due.first;
+    second = due.second;
+    third = due.third;
+    kept = due.kept + w;
+  }
 
   pub on_ready : q.d + 1 < n → Ready n on
   on_ready h =
@@ -66,6 +80,9 @@ module _ (n : ℕ) (due : Due) (l : Leaves n due.quartet.a due.quartet.b due.qua
       let more : scale_of Poll * (q.d + 1 - (q.c + 1)) ≡ most + scale_of Poll = omega (arith, l.cd) in
       record {
         leaves = unfold packed in omega (arith, y.leaves);
+        first = y.first;
+        second = y.second;
+        third = y.third;
         kept = rw more (
           omega (arith, p.0, y.kept.0, shares_each.0),
           omega (arith, p.1, y.kept.1, shares_each.1),
@@ -89,7 +106,7 @@ module _ (n : ℕ) (due : Due) (l : Leaves n due.quartet.a due.quartet.b due.qua
 
     pub end_added :
         (q' : Quartet) (v : List ℕ) → Grown n (of_three q (due.kept + w)) u v
-        → Added n due (fresh q') (adds (record_of q code)) t v
+        → Added n due (fresh n q') (adds (record_of q code)) t v
     end_added q' v f i j hi hj =
         omega (
           arith,

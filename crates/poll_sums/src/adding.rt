@@ -7,7 +7,7 @@ ghost use Rattle.limits.specs.Limits.{most_poll_cells, most_polled};
 ghost use Rattle.trees.specs.Tables.{cell};
 ghost use Rattle.poll_rules.specs.Counts.{cell_of, share, adds};
 ghost use Rattle.poll_rules.specs.inner.Quartets.{record_of, Leaves, next_of};
-ghost use Rattle.poll_sums.specs.inner.Sums.{together, dealt, with_fourth, of_three, Ready, Above};
+ghost use Rattle.poll_sums.specs.inner.Sums.{together, dealt, with_fourth, of_three, Ready, Placed};
 ghost use Rattle.poll_sums.specs.inner.Sums.{most_given, RoomFor, Grown, Added};
 
 use crate::Cell;
@@ -40,18 +40,18 @@ fn shares_of(code: u8) -> u32
 }
 
 // Adds a share to a cell above the diagonal, which has room for it in 32 bits.
-fn add_share(n: usize, at: Cell, share: u32, sums: &mut [u32; MOST_POLL_CELLS])
-    requires { Above n at × (n ≤ most_polled) × (length sums.old ≡ most_poll_cells)
-        × (cell n sums.old at.row at.column + share < 4294967296) }
+fn add_share(n: usize, to: Cell, share: u32, sums: &mut [u32; MOST_POLL_CELLS])
+    requires { Placed n to × (n ≤ most_polled) × (length sums.old ≡ most_poll_cells)
+        × (cell n sums.old to.row to.column + share < 4294967296) }
     ensures { (length sums.new ≡ most_poll_cells)
-        × Grown n (λ x y. indicator (cell_of at.row at.column x y) share) sums.old sums.new }
+        × Grown n (λ x y. indicator (cell_of to.row to.column x y) share) sums.old sums.new }
 {
-    sums[at.row * n + at.column] += share;
+    sums[to.at] += share;
 }
 
 // Deals the three numbers in w to three cells.
 fn deal(n: usize, x: Cell, y: Cell, z: Cell, w: u32, sums: &mut [u32; MOST_POLL_CELLS])
-    requires { Above n x × Above n y × Above n z × (n ≤ most_polled)
+    requires { Placed n x × Placed n y × Placed n z × (n ≤ most_polled)
         × (length sums.old ≡ most_poll_cells) × RoomFor n w sums.old }
     ensures { (length sums.new ≡ most_poll_cells)
         × Grown n (dealt x.row x.column y.row y.column z.row z.column w)
@@ -63,30 +63,54 @@ fn deal(n: usize, x: Cell, y: Cell, z: Cell, w: u32, sums: &mut [u32; MOST_POLL_
 }
 
 // Deals shares to the cells of the fourth leaf: with the third, the second and the first.
-fn deal_with_fourth(n: usize, q: Quartet, w: u32, sums: &mut [u32; MOST_POLL_CELLS])
-    requires { Leaves n q.a q.b q.c q.d × (n ≤ most_polled)
-        × (length sums.old ≡ most_poll_cells) × RoomFor n w sums.old }
+fn deal_with_fourth(n: usize, due: Due, w: u32, sums: &mut [u32; MOST_POLL_CELLS])
+    requires { Leaves n due.quartet.a due.quartet.b due.quartet.c due.quartet.d × Ready n due
+        × (n ≤ most_polled) × (length sums.old ≡ most_poll_cells) × RoomFor n w sums.old }
     ensures { (length sums.new ≡ most_poll_cells)
-        × Grown n (with_fourth q w) sums.old sums.new }
+        × Grown n (with_fourth due.quartet w) sums.old sums.new }
 {
-    let Quartet { a, b, c, d } = q;
-    let x = Cell { row: c, column: d };
-    let y = Cell { row: b, column: d };
-    let z = Cell { row: a, column: d };
+    let Quartet { a, b, c, d } = due.quartet;
+    let x = Cell {
+        row: c,
+        column: d,
+        at: due.third + d,
+    };
+    let y = Cell {
+        row: b,
+        column: d,
+        at: due.second + d,
+    };
+    let z = Cell {
+        row: a,
+        column: d,
+        at: due.first + d,
+    };
     deal(n, x, y, z, w, sums);
 }
 
 // Deals shares to the cells of the first three leaves: first with second, first with third, second with third.
-fn deal_of_three(n: usize, q: Quartet, w: u32, sums: &mut [u32; MOST_POLL_CELLS])
-    requires { Leaves n q.a q.b q.c q.d × (n ≤ most_polled)
-        × (length sums.old ≡ most_poll_cells) × RoomFor n w sums.old }
+fn deal_of_three(n: usize, due: Due, w: u32, sums: &mut [u32; MOST_POLL_CELLS])
+    requires { Leaves n due.quartet.a due.quartet.b due.quartet.c due.quartet.d × Ready n due
+        × (n ≤ most_polled) × (length sums.old ≡ most_poll_cells) × RoomFor n w sums.old }
     ensures { (length sums.new ≡ most_poll_cells)
-        × Grown n (of_three q w) sums.old sums.new }
+        × Grown n (of_three due.quartet w) sums.old sums.new }
 {
-    let Quartet { a, b, c, .. } = q;
-    let x = Cell { row: a, column: b };
-    let y = Cell { row: a, column: c };
-    let z = Cell { row: b, column: c };
+    let Quartet { a, b, c, .. } = due.quartet;
+    let x = Cell {
+        row: a,
+        column: b,
+        at: due.first + b,
+    };
+    let y = Cell {
+        row: a,
+        column: c,
+        at: due.first + c,
+    };
+    let z = Cell {
+        row: b,
+        column: c,
+        at: due.second + c,
+    };
     deal(n, x, y, z, w, sums);
 }
 
@@ -100,14 +124,15 @@ pub fn add_record(n: usize, due: Due, code: u8, sums: &mut [u32; MOST_POLL_CELLS
     let q = due.quartet;
     let shares = shares_of(code);
     let kept = due.kept + shares;
-    deal_with_fourth(n, q, shares, sums);
+    deal_with_fourth(n, due, shares, sums);
     if q.d + 1 < n {
         return Due {
             quartet: Quartet { d: q.d + 1, ..q },
             leaves: due.leaves + 16777216,
             kept,
+            ..due
         };
     }
-    deal_of_three(n, q, kept, sums);
-    begin(next(n, q))
+    deal_of_three(n, due, kept, sums);
+    begin(n, next(n, q))
 }

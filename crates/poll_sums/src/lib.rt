@@ -4,9 +4,10 @@
 pub mod adding;
 pub mod writing;
 
-// A cell of a table.
+// A cell of a table, and where it stands among the sums.
 #[derive(Clone, Copy)]
 pub struct Cell {
     pub row: usize,
     pub column: usize,
+    pub at: usize,
 }

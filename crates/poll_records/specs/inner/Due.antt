@@ -13,5 +13,6 @@ abbrev pub Polled : Quartet → Type 0
 Polled q = (q.a ≤ most_polled) × (q.b ≤ most_polled) × (q.c ≤ most_polled) × (q.d ≤ most_polled)
 
 -- q is due, and nothing is kept back
-abbrev pub fresh : Quartet → Due
-fresh q = record { quartet = q; leaves = packed q; kept = 0 }
+abbrev pub fresh : ℕ → Quartet → Due
+fresh n q =
+    record { quartet = q; leaves = packed q; first = q.a * n; second = q.b * n; third = q.c * n; kept = 0 }

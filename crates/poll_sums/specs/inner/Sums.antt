@@ -32,16 +32,19 @@ of_three q = dealt q.a q.b q.a q.c q.b q.c
 abbrev pub EachAtMost : (m w : ℕ) → Type 0
 EachAtMost m w = (w % 1024 ≤ m) × (w / 1024 % 1024 ≤ m) × (w / 1048576 ≤ m)
 
--- the number is that of the quartet due; six sixths at most are kept back for each of its pairings from each record
--- with its first three leaves before it, and nothing after the last leaf
+-- what is ready for the quartet due is right; six sixths at most are kept back for each of its pairings from each
+-- record with its first three leaves before it, and nothing after the last leaf
 pub record Ready (n : ℕ) (due : Due) : Type 0 where
   pub leaves : due.leaves ≡ packed due.quartet
+  pub first : due.first ≡ due.quartet.a * n
+  pub second : due.second ≡ due.quartet.b * n
+  pub third : due.third ≡ due.quartet.c * n
   pub kept : EachAtMost (scale_of Poll * (due.quartet.d - (due.quartet.c + 1))) due.kept
   pub ended : n ≤ due.quartet.d → due.kept ≡ 0
 
--- a cell above the diagonal
-abbrev pub Above : ℕ → Cell → Type 0
-Above n p = (p.row < p.column) × (p.column < n)
+-- a cell above the diagonal, and its place
+abbrev pub Placed : ℕ → Cell → Type 0
+Placed n p = (p.row < p.column) × (p.column < n) × (p.at ≡ p.row * n + p.column)
 
 -- the shares of a record, and what is kept back with them, are less: two numbers of 30 bits
 abbrev pub most_given : ℕ

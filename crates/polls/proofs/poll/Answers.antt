@@ -4,6 +4,7 @@ use mathlib.Core.Path.{sym, ◌∙◌}
 use native.Mathlib.Omega.{arith}
 use Rattle.refusals.proofs.Answers.{done_none, refused_some, judged_stops}
 use Rattle.poll_rules.specs.Operations.{poll_refusal}
+use Rattle.poll_rules.proofs.Operations.{sizes_pass}
 use Rattle.poll_rules.proofs.Records.{passes_of, record_due}
 use Rattle.poll_records.proofs.PackedLeaves.{leaves_polled}
 use Rattle.polls.proofs.Tallies.{upto_none, due_leaves, sums_small, upto_bad, upto_more, none_bad, all_sums}
@@ -16,6 +17,11 @@ returns-in_err-judge_sizes c =
     let arises = refused_some _ _ (sym c.judge_sizes.ensures ∙ c.in_err-judge_sizes.was) in
     let said = poll_refused _ _ _ (judged_stops _ arises) c.from_residual.ensures in
     record { answer = said.0; buffer = said.1 }
+
+pub begin-due-requires : goal.begin-due-requires
+begin-due-requires c =
+    let sized = sizes_pass _ _ _ (done_none _ (sym c.judge_sizes.ensures ∙ c.in_ok-judge_sizes.was)) in
+    (sized.most, (omega arith, omega arith, omega arith, omega arith))
 
 pub loop-k-init : goal.loop-k-init
 loop-k-init c =

@@ -27,7 +27,7 @@ pub deal_with_fourth-requires : goal.deal_with_fourth-requires
 deal_with_fourth-requires c =
     let p = c.requires in
     let less = small (goal.at.deal_with_fourth-requires c).After-shares_of-shares in
-    (p.0, p.2, p.3, λ i j hi hj. omega (arith, p.4 i j hi hj, less))
+    (p.0, p.1, p.2, p.3, λ i j hi hj. omega (arith, p.4 i j hi hj, less))
 
 pub overflow_add-result-then-q-n : goal.overflow_add-result-then-q-n
 unfolding packed
@@ -56,6 +56,7 @@ deal_of_three-requires c =
     let w = c.shares_of-shares.result in
     let g = c.deal_with_fourth.ensures in (
       p.0,
+      p.1,
       p.2,
       g.0,
       λ i j hi hj.
@@ -71,7 +72,7 @@ deal_of_three-requires c =
 pub begin-requires : goal.begin-requires
 begin-requires c =
     let p = c.requires in
-    rw c.next.ensures (next_polled c.args.n c.args.due.quartet p.2 p.0)
+    (p.2, rw c.next.ensures (next_polled c.args.n c.args.due.quartet p.2 p.0))
 
 pub returns : goal.returns
 returns c =
