@@ -9,6 +9,13 @@ use Rattle.refusals.specs.declared.Refusal.{Refusal}
 use Rattle.refusals.specs.Refusals.{Outcome, answered, outcome_of, outcome, written, returned}
 use Rattle.refusals.proofs.Answers.{HandsOn, handed_on, outcome_answered, written_refused}
 
+-- a call that takes something in tells a refusal that arises, and promises nothing of what it takes in
+pub taken_none :
+    {A : Type 0} {o : Option Refusal} {r : Refusal} {q : Outcome} → o ≡ some r → q ≡ Err r
+    → (q ≡ outcome_of o) × (o ≡ none → A)
+unfolding outcome_of
+taken_none arises h = (rw (arises, h), λ none_arises. absurd (let z : ◌≡◌ {A = ℕ} 0 1 = cc in omega arith))
+
 module _ {A : Type 0} where
   told_none : (o : Option Refusal) (x y : A) → returned (answered o x) ≡ Ok y → (o ≡ none) × (y ≡ x)
   unfolding answered returned

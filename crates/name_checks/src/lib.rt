@@ -2,9 +2,10 @@
 #![tactic(auto)]
 
 ghost use Rattle.std.specs.Prelude.{◌≡◌, ◌+◌, ◌≤◌, length};
+ghost use Rattle.std.proofs.Math.Option.{none};
 ghost use Rattle.base.specs.Lists.{all_in};
 ghost use Rattle.limits.specs.Limits.{most_leaves};
-ghost use Rattle.refusals.specs.Refusals.{answered, returned};
+ghost use Rattle.refusals.specs.Refusals.{outcome_of, answered, returned};
 ghost use Rattle.sheet_rules.specs.Sheets.{name_at, next_name, name_byte, longest_sheet};
 ghost use Rattle.sheet_rules.specs.Operations.{good_at, names_refusal};
 ghost use Rattle.name_index.specs.inner.Hashes.{hash_if};
@@ -65,14 +66,18 @@ fn next_name(sheet: &[u8], at: usize) -> usize
     at + 1 + usize::from(sheet[at])
 }
 
-// The names one by one, each 15 before 16; then 15 with n where they end before the offset. Where nothing is refused,
-// the index of the names. Both figures stand by themselves: the struct that has them is the crate's above. For the
-// crates above.
-pub fn judge_names(sheet: &[u8], n: usize, offset: usize) -> Result<NameIndex<'_>, Refusal>
-    requires { (offset ≤ length sheet.now) × (length sheet.now ≤ longest_sheet) × (n ≤ most_leaves) }
-    ensures { result ≡ returned (answered (names_refusal sheet.now n offset) (first_names sheet.now n)) }
+// Takes the names of a sheet one by one into an index of none, each judged by 15 before 16; then 15 with n where they
+// end before the offset. Where nothing is refused, the index has all of them. For the crates above.
+pub fn take_names(
+    sheet: &[u8],
+    n: usize,
+    offset: usize,
+    names: &mut NameIndex<'_>,
+) -> Result<(), Refusal>
+    requires { (offset ≤ length sheet.now) × (n ≤ most_leaves) × (names.old ≡ first_names sheet.now 0) }
+    ensures answer { result ≡ outcome_of (names_refusal sheet.now n offset) }
+    ensures index { names_refusal sheet.now n offset ≡ none → names.new ≡ first_names sheet.now n }
 {
-    let mut names = NameIndex::new(sheet);
     let mut at = 0;
     for i in 0..n {
         let hash = name_hash(sheet, offset, at).ok_or(Refusal::Name(i))?;
@@ -84,5 +89,24 @@ pub fn judge_names(sheet: &[u8], n: usize, offset: usize) -> Result<NameIndex<'_
     if at < offset {
         return Err(Refusal::Name(n));
     }
+    Ok(())
+}
+
+// The same, and where nothing is refused, the index by value. Both figures stand by themselves: the struct that has
+// them is the crate's above. For the crates above.
+pub fn judge_names(sheet: &[u8], n: usize, offset: usize) -> Result<NameIndex<'_>, Refusal>
+    requires { (offset ≤ length sheet.now) × (length sheet.now ≤ longest_sheet) × (n ≤ most_leaves) }
+    ensures { result ≡ returned (answered (names_refusal sheet.now n offset) (first_names sheet.now n)) }
+{
+    let mut names = NameIndex::new(sheet);
+    take_names(sheet, n, offset, &mut names)?;
     Ok(names)
+}
+
+// The same, with no index left. For the crates above.
+pub fn check_names(sheet: &[u8], n: usize, offset: usize) -> Result<(), Refusal>
+    requires { (offset ≤ length sheet.now) × (length sheet.now ≤ longest_sheet) × (n ≤ most_leaves) }
+    ensures { result ≡ outcome_of (names_refusal sheet.now n offset) }
+{
+    take_names(sheet, n, offset, &mut NameIndex::new(sheet))
 }

@@ -1,85 +1,16 @@
--- `name_checks::judge_names` meets its contract: no refusal arises from the names passed so far, and they are
--- in the index.
-use mathlib.Core.Path.{◌≡◌, sym, ◌∙◌}
-use mathlib.Core.Bool.{true, not}
-use Prim.Native.Nat.{◌≤◌}
-use native.Mathlib.Omega.{arith}
-use borrow.Author.Tests.{not-true, not-false}
-use lib.ListN.{length}
+-- `name_checks::judge_names` meets its contract: the index of no names is made, and takes all of them.
+use mathlib.Core.Path.{sym, ◌∙◌}
 use Rattle.refusals.specs.Refusals.{answered, returned}
-use Rattle.refusals.specs.declared.Refusal.TheVariants.{Name}
-use Rattle.refusals.proofs.Answers.{handed_on}
-use Rattle.sheet_rules.specs.Sheets.{next_name, name_at}
-use Rattle.sheet_rules.specs.Operations.{repeated, good_at}
-use Rattle.sheet_rules.proofs.Names.{start_name, good_ends}
-use Rattle.sheet_rules.proofs.NameRefusals.{passed_none, bad_here, repeated_here, passed_more, rest_here}
-use Rattle.sheet_rules.proofs.NameRefusals.{all_passed}
-use Rattle.name_index.specs.inner.Hashes.{hash_of}
-use Rattle.name_index.proofs.Hashes.{failed_hash, passed_hash}
-use Rattle.name_checks.proofs.judge_names.Goals.{In_ok-hash, After-add}
+use Rattle.refusals.proofs.Answers.{call_passed, refused_some}
+use Rattle.name_checks.proofs.Tells.{told_hands}
 use Rattle.name_checks.proofs.judge_names.Goals as goal
 
-pub loop-i-init : goal.loop-i-init
-loop-i-init c = (passed_none _ _ _, c.new-names.ensures)
-
-pub returns-in_err-hash : goal.returns-in_err-hash
-unfolding answered returned
-returns-in_err-hash c =
-    let none_found = rw c.in_err-hash.was at c.ok_or.ensures.ok_part in
-    let refusal : c.in_err-hash.field-0.0 ≡ Name c.loop-i.i =
-    (let same = sym c.in_err-hash.was ∙ rw none_found at c.ok_or.ensures.value in cc) in
-    let refused = bad_here c.loop-i.invariant.0 c.loop-i-test.true (failed_hash _ c.name_hash.ensures none_found) in
-    handed_on _ c.from_residual.ensures ∙ rw (refused, refusal)
-
--- the name is good, and this is its hash
-good :
-    (c : In_ok-hash)
-    → (let a = c.args in
-    let at = c.loop-i.at in
-    (good_at a.sheet.now a.offset at ≡ true) × (c.in_ok-hash.hash ≡ hash_of (name_at a.sheet.now at)))
-good c =
-    passed_hash _ c.name_hash.ensures (rw c.in_ok-hash.was at c.ok_or.ensures.ok_part)
-
-ends : (c : In_ok-hash) → (let a = c.args in next_name a.sheet.now c.loop-i.at ≤ length a.sheet.now)
-ends c = omega (arith, good_ends _ _ _ (good c).0)
-
-pub add-requires : goal.add-requires
-add-requires c =
-    let l = c.loop-i in
-    let here = (goal.at.add-requires c).In_ok-hash in
-    let hashed = rw (start_name _ _ l.invariant.0.here) at (good here).1 in
-    rw l.invariant.1 (omega arith, l.invariant.0.here, hashed, ends here)
-
--- what `add` says of the name
-new_is : (c : After-add) → (let a = c.args in c.add.result ≡ not (repeated a.sheet.now c.loop-i.i))
-new_is c = rw c.loop-i.invariant.1 at c.add.ensures.0
-
-pub returns-then-not-add : goal.returns-then-not-add
-unfolding answered returned
-returns-then-not-add c =
-    let here = goal.at.returns-then-not-add c in
-    let equal = not-false _ (sym (new_is here.After-add) ∙ c.if-not-add.true) in
-    rw (repeated_here c.loop-i.invariant.0 (good here.In_ok-hash).0 c.loop-i-test.true equal)
-
-pub next_name-at-requires : goal.next_name-at-requires
-next_name-at-requires c = ends (goal.at.next_name-at-requires c).In_ok-hash
-
-pub loop-i-preserved : goal.loop-i-preserved
-loop-i-preserved c =
-    let here = goal.at.loop-i-preserved c in
-    let new = not-true _ (sym (new_is here.After-add) ∙ c.if-not-add.false) in (
-      passed_more c.loop-i.invariant.0 (good here.In_ok-hash).0 c.loop-i-test.true new c.next_name-at.ensures,
-      rw (c.loop-i.invariant.1, c.if-not-add.false) at c.add.ensures.1,
-    )
-
-pub returns-then-at-offset : goal.returns-then-at-offset
-unfolding answered returned
-returns-then-at-offset c =
-    rw (rest_here c.loop-i.invariant.0 c.loop-i-test.false c.if-at-offset.true)
+pub returns-in_err-take_names : goal.returns-in_err-take_names
+returns-in_err-take_names c =
+    told_hands _ (refused_some _ _ (sym c.take_names.ensures.answer ∙ c.in_err-take_names.was)) c.from_residual.ensures
 
 pub returns : goal.returns
 unfolding answered returned
 returns c =
-    let inv = c.loop-i.invariant in
-    let passed : c.loop-i.i ≡ c.args.n = omega (arith, inv.0.within) in
-    rw (all_passed inv.0 c.loop-i-test.false c.if-at-offset.false, inv.1, passed)
+    let passed = call_passed _ c.take_names.ensures.answer c.in_ok-take_names.was in
+    rw (passed, c.take_names.ensures.index passed)
