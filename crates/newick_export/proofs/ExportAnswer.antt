@@ -10,9 +10,9 @@ use native.Mathlib.Omega.{arith}
 use lib.ListN.{length}
 use lib.Seq.{sets-eq}
 use Rattle.refusals.specs.declared.Refusal.{Refusal}
-use Rattle.refusals.specs.Refusals.{judged, answered, written, returned}
+use Rattle.refusals.specs.Refusals.{judged, answered, written}
 use Rattle.refusals.proofs.Answers.{judged_nest, judged_behind, judged_none, judged_alone}
-use Rattle.refusals.proofs.Answers.{HandsOn, handed_on, written_refused, written_done}
+use Rattle.refusals.proofs.Answers.{written_refused, written_done}
 use Rattle.trees.specs.Listings.{rules_refusal, tree_of}
 use Rattle.checks.specs.Sizes.{count_refusal, length_refusal, input_refusal, room_refusal}
 use Rattle.checks.proofs.Sizes.{room_right}
@@ -20,7 +20,6 @@ use Rattle.sheet_rules.specs.Sheets.{leaves_of, offset_of, names_of}
 use Rattle.sheet_rules.specs.Operations.{sheet_ends_refusal, sheet_length_refusal, names_refusal}
 use Rattle.sheet_rules.proofs.Names.{next_before}
 use Rattle.name_index.specs.inner.Indexes.{FirstNames, first_names, StartsOf}
-use Rattle.name_checks.proofs.Tells.{tells_none, tells_this, tells_some}
 use Rattle.newick_rules.specs.Exporting.{exported}
 use Rattle.newick_rules.specs.Operations.{export_answer}
 use Rattle.newick_writing.specs.inner.Writing.{Put, Placed, Ready}
@@ -56,36 +55,28 @@ index_placed {x} s i l =
 
 -- as code replies: something is refused, or nothing is and the text was put
 reply_refused :
-    (o : Option Refusal) (x : List ℕ) {r : Result ℕ Refusal} {e : Refusal} → o ≡ some e → HandsOn r e
+    (o : Option Refusal) (x : List ℕ) {r : Result ℕ Refusal} {e : Refusal} → o ≡ some e → r ≡ Err e
     → r ≡ replied (answered o x)
 unfolding replied answered
-reply_refused o x h p = handed_on _ p ∙ rw h
+reply_refused o x h p = p ∙ rw h
 
 reply_done :
     (o : Option Refusal) (x : List ℕ) {w : ℕ} → o ≡ none → w ≡ length x → Ok w ≡ replied (answered o x)
 unfolding replied answered
 reply_done o x h many = rw (h, many)
 
-module _ (S l t : List ℕ) {q : Result FirstNames Refusal}
-    (says : q ≡ returned (answered (export_refusal S l (length t)) (first_names S (leaves_of S)))) where
+module _ (S l t : List ℕ) where
   pub export_refused :
-      {r : Result ℕ Refusal} {e : Refusal} → q ≡ Err e → HandsOn r e
+      {r : Result ℕ Refusal} {e : Refusal} → export_refusal S l (length t) ≡ some e → r ≡ Err e
       → (r ≡ replied (export_answer S l (length t))) × (t ≡ written (export_answer S l (length t)) t)
-  export_refused h p =
+  export_refused arises p =
       let o = export_refusal S l (length t) in
-      let arises = tells_some _ _ says h in
       rw (answer_is S l (length t)) (
         reply_refused o (text_of S l) arises p,
         sym (written_refused o _ (text_of S l) t arises),
       )
 
-  module _ {x : FirstNames} (done : q ≡ Ok x) where
-    none_arises : export_refusal S l (length t) ≡ none
-    none_arises = tells_none _ _ says done
-
-    pub index_is : x ≡ first_names S (leaves_of S)
-    index_is = tells_this _ _ says done
-
+  module _ (none_arises : export_refusal S l (length t) ≡ none) where
     given_passed : given_refusal S (leaves_of S) (offset_of S) l ≡ none
     unfolding export_refusal
     given_passed = (judged_none (given_refusal S (leaves_of S) (offset_of S) l) _ none_arises).0
@@ -97,22 +88,24 @@ module _ (S l t : List ℕ) {q : Result FirstNames Refusal}
         let room = room_refusal (length (text_of S l)) (length t) in
         room_right _ _ (sym (judged_alone room) ∙ (judged_none given (room ∷ []) none_arises).1)
 
+    -- an index of all names has where they start
     pub export_ready :
-        {n : ℕ} {starts : List ℕ} → n ≡ x.many → StartsOf x starts → Ready S starts n l t
-    export_ready e s =
-        rw (e, index_is) (record {
+        {n : ℕ} {x : FirstNames} {starts : List ℕ} → n ≡ leaves_of S → x ≡ first_names S n → StartsOf x starts
+        → Ready S starts n l t
+    export_ready e all s =
+        rw e (record {
           judged = given_judged S l given_passed;
-          places = index_placed (rw index_is at s);
+          places = index_placed (rw (all, e) at s);
           room = record { enough = omega (arith, text_room) };
         })
 
     pub export_done :
-        {n w : ℕ} {t' : List ℕ} → n ≡ x.many → Put (exported (names_of S) (tree_of n l)) 0 t t' w
+        {n w : ℕ} {t' : List ℕ} → n ≡ leaves_of S → Put (exported (names_of S) (tree_of n l)) 0 t t' w
         → (Ok w ≡ replied (export_answer S l (length t)))
         × (t' ≡ written (export_answer S l (length t)) t)
     export_done e p =
         let o = export_refusal S l (length t) in
-        let put = rw (e, index_is) at p in
+        let put = rw e at p in
         let bytes = put.bytes ∙ (rw zero-add at (sets-eq (text_of S l) t 0 (omega (arith, text_room)))) in
         rw (answer_is S l (length t)) (
           reply_done o (text_of S l) none_arises (omega (arith, put.next)),

@@ -9,7 +9,7 @@ use native.Mathlib.Omega.{arith}
 use lib.ListN.{length, get_or}
 use Rattle.base.specs.Numbers.{sum_below}
 use Rattle.limits.specs.declared.Kind.TheVariants.{Counts}
-use Rattle.limits.specs.Limits.{IsLeafCount}
+use Rattle.limits.specs.Limits.{IsLeafCount, most_leaves}
 use Rattle.refusals.specs.declared.Refusal.TheVariants.{SheetEnds, SheetLength, OutputRoom}
 use Rattle.refusals.specs.Refusals.{judged}
 use Rattle.refusals.proofs.Answers.{refuse_passed, refuse_failed, refuse_none, judged_none, judged_stops}
@@ -27,7 +27,7 @@ use Rattle.sheet_rules.proofs.Sizes.{sum_is, ends_within}
 use Rattle.sheet_rules.proofs.Accepted.{name_ends}
 use Rattle.newick_rules.proofs.ExportLength.{export_length}
 use Rattle.newick_writing.specs.inner.Writing.{Judged}
-use Rattle.newick_export.specs.inner.Judging.{text_of, sizes_refusal, given_refusal, export_refusal}
+use Rattle.newick_export.specs.inner.Judging.{text_of, sizes_refusal, given_refusal, NamesLeft, export_refusal}
 
 -- The sizes: 13, 1, 2, 14.
 module _ (S : List ℕ) (n o lent : ℕ) where
@@ -74,6 +74,17 @@ sizes_right S n o lent h =
       long = input.1;
       sum = sum_is S n o (refuse_none _ SheetLength c.0);
     }
+
+-- Nothing arises before the names: they decide, and lie within the sheet.
+module _ (S : List ℕ) (n o : ℕ) (l : List ℕ) (left : NamesLeft S n o l) where
+  pub names_decide : given_refusal S n o l ≡ names_refusal S n o
+  unfolding given_refusal
+  names_decide = judged_passes _ left.sizes ∙ judged_passes _ left.rules ∙ judged_alone (names_refusal S n o)
+
+  pub names_within : (o ≤ length S) × (length S ≤ longest_sheet) × (n ≤ most_leaves)
+  names_within =
+      let s = sizes_right S n o (length l) left.sizes in
+      (omega (arith, s.sum), ends_within S s.ends, s.count.1)
 
 -- The letters of the first k names, and a length byte each, are the bytes before the next name.
 letters_start :

@@ -1,6 +1,6 @@
--- What export judges, in three goes, one function each. No public contract cites it.
-use Rattle.std.specs.Prelude.{List, [], ◌∷◌, ℕ, ◌-◌, ◌*◌, length}
-use Rattle.std.proofs.Math.Option.{Option}
+-- What export judges, in three goes. No public contract cites it.
+use Rattle.std.specs.Prelude.{◌≡◌, List, [], ◌∷◌, ℕ, ◌-◌, ◌*◌, length}
+use Rattle.std.proofs.Math.Option.{Option, none}
 use Rattle.limits.specs.declared.Kind.TheVariants.{Counts}
 use Rattle.refusals.specs.declared.Refusal.{Refusal}
 use Rattle.refusals.specs.Refusals.{judged}
@@ -18,6 +18,11 @@ sizes_refusal S n o lent =
 -- these, then the rules of the listing, then the names: 7, 8, 15, 16
 unfoldable pub given_refusal : (S : List ℕ) (n o : ℕ) (l : List ℕ) → Option Refusal
 given_refusal S n o l = judged (sizes_refusal S n o (length l) ∷ rules_refusal n l ∷ names_refusal S n o ∷ [])
+
+-- nothing of these arises before the names
+pub record NamesLeft (S : List ℕ) (n o : ℕ) (l : List ℕ) : Type 0 where
+  pub sizes : sizes_refusal S n o (length l) ≡ none
+  pub rules : rules_refusal n l ≡ none
 
 -- the text of a listing's tree, with the names of a sheet
 abbrev pub text_of : (S l : List ℕ) → List ℕ
