@@ -1,14 +1,17 @@
 -- Two lent sets and the room for a third: what is refused where one does not fit, that nothing is where all fit, and
 -- what fits where nothing is refused.
+use Rattle.std.specs.Prelude.{Ok, Err}
 use mathlib.Core.Path.{◌≡◌, sym, ◌∙◌}
+use mathlib.Core.List.{List}
 use mathlib.Core.Option.{none, some}
 use Prim.Native.Nat.{ℕ, ◌≤◌, ◌<◌}
+use lib.ListN.{length}
 use Rattle.limits.specs.Limits.{set_bytes}
 use Rattle.refusals.specs.declared.Refusal.{Refusal}
 use Rattle.refusals.specs.declared.Refusal.TheVariants.{OutputRoom}
 use Rattle.refusals.proofs.Answers.{judged_stops, judged_passes, judged_none, judged_alone}
-use Rattle.checks.specs.Sizes.{length_refusal}
-use Rattle.checks.proofs.Sizes.{length_right, room_stops, room_passes, room_right}
+use Rattle.checks.specs.Sizes.{length_refusal, by_value}
+use Rattle.checks.proofs.Sizes.{length_right, value_right, value_wrong, room_stops, room_passes, room_right}
 use Rattle.lent_sets.specs.Operations.{pair_refusal, sets_refusal}
 
 module _ (a b : ℕ) where
@@ -37,6 +40,25 @@ module _ (a b : ℕ) where
     pub all_fit : pair_refusal a b ≡ none → set_bytes ≤ room → sets_refusal a b room ≡ none
     unfolding sets_refusal
     all_fit h l = judged_passes _ h ∙ judged_alone _ ∙ room_passes _ _ l
+
+-- the same of two lists, from what is said of each by value
+module _ (a b : List ℕ) where
+  pub first_wrong : {r : Refusal} → Err r ≡ by_value set_bytes a → pair_refusal (length a) (length b) ≡ some r
+  first_wrong h = first_off _ _ (value_wrong set_bytes a h)
+
+  module _ {x : List ℕ} (first : Ok x ≡ by_value set_bytes a) where
+    pub second_wrong : {r : Refusal} → Err r ≡ by_value set_bytes b → pair_refusal (length a) (length b) ≡ some r
+    second_wrong h = second_off _ _ (value_right set_bytes a first).0 (value_wrong set_bytes b h)
+
+    pub both_right :
+        {y : List ℕ} → Ok y ≡ by_value set_bytes b
+        → (pair_refusal (length a) (length b) ≡ none) × (x ≡ a) × (y ≡ b)
+    both_right h =
+        let f = value_right set_bytes a first in
+        let s = value_right set_bytes b h in
+        (both_fit _ _ f.0 s.0, f.1, s.1)
+
+pub ruleset pair_told = (first_wrong, second_wrong, both_right)
 
 pub pair_fine : (a b : ℕ) → pair_refusal a b ≡ none → (a ≡ set_bytes) × (b ≡ set_bytes)
 unfolding pair_refusal
