@@ -1,6 +1,6 @@
 -- What is judged before a tree is changed, one go after the other.
 use Rattle.std.specs.Prelude.{Ok, Err}
-use mathlib.Core.Path.{◌≡◌, ap, sym, ◌∙◌}
+use mathlib.Core.Path.{◌≡◌, refl, ap, sym, ◌∙◌}
 use mathlib.Core.Logic.{◌≢◌}
 use mathlib.Core.Bool.{Bool, true, false, ◌&&◌}
 use mathlib.Core.List.{List, [], ◌∷◌}
@@ -15,7 +15,7 @@ use Rattle.refusals.specs.declared.Refusal.{Refusal}
 use Rattle.refusals.specs.declared.Refusal.TheVariants.{LeafCount as Count, InputLength, OutputRoom, NotOwn}
 use Rattle.refusals.specs.Refusals.{Outcome, refuse, judged, outcome_of}
 use Rattle.refusals.proofs.Answers.{refuse_passed, refuse_failed, judged_stops, judged_passes, judged_alone}
-use Rattle.refusals.proofs.Answers.{judged_nest, judged_none}
+use Rattle.refusals.proofs.Answers.{judged_nest, judged_none, refused_some}
 use Rattle.refusals.proofs.Answers.{HandsOn, go_stops, go_passes}
 use Rattle.checks.specs.Sizes.{right_count, count_refusal, length_refusal, room_refusal}
 use Rattle.checks.proofs.Sizes.{count_stops, count_passes, count_right, length_stops, length_passes, length_right}
@@ -120,16 +120,19 @@ module _ (there : Bool) (n : ℕ) (t : List ℕ) (T : Tree) (k : IsLeafCount n) 
   tabled : table_refusal Counts n t 0 0 ≡ cells_refusal n t
   tabled = cells_left Counts n t 0 0 k long (omega arith)
 
-  module _ {q : Outcome} (told : q ≡ outcome_of (table_refusal Counts n t 0 0)) where
-    pub cells_stop : {r : Outcome} {e : Refusal} → q ≡ Err e → HandsOn r e → r ≡ outcome_of cells
-    unfolding cells_or_own_refusal
-    cells_stop h p = go_stops (cells_refusal n t) (told ∙ ap outcome_of tabled) _ h p
+  pub cells_stop : {r : Refusal} → Err r ≡ outcome_of (table_refusal Counts n t 0 0) → Err r ≡ outcome_of cells
+  unfolding cells_or_own_refusal outcome_of
+  cells_stop h =
+      let arises = refused_some (cells_refusal n t) _ (sym (h ∙ ap outcome_of tabled)) in
+      ap outcome_of (sym (judged_stops _ arises))
 
-    pub unfit_told : fit ≡ false → q ≡ Ok tt → Err NotOwn ≡ outcome_of cells
-    unfolding cells_or_own_refusal outcome_of
-    unfit_told f h =
-        go_passes (cells_refusal n t) (told ∙ ap outcome_of tabled) (refuse fit NotOwn) h
-        (ap outcome_of (sym (refuse_failed NotOwn f)))
+  pub unfit_told : Ok tt ≡ outcome_of (table_refusal Counts n t 0 0) → fit ≡ false → Err NotOwn ≡ outcome_of cells
+  unfolding cells_or_own_refusal outcome_of
+  unfit_told h f =
+      go_passes (cells_refusal n t) (h ∙ ap outcome_of tabled) (refuse fit NotOwn) refl
+      (ap outcome_of (sym (refuse_failed NotOwn f)))
+
+pub ruleset own_told = (fit_told, unfit_told)
 
 -- All that is judged: the sizes, the rules, then the cells and what is named.
 module _ (n : ℕ) (l t : List ℕ) (c : Change) (room space : ℕ) where

@@ -71,6 +71,7 @@ fn judge_sizes(
 
 // What is judged of a table, and of what is named: 4, 5, 20. A tree's own table is never refused by 4 or 5, so only
 // another is judged for them.
+#[tactic(auto, using(crate::proofs::Refusals::own_told))]
 fn judge_cells(there: bool, n: usize, listing: &[u16], table: &[u32]) -> Result<(), Refusal>
     requires { IsLeafCount n × KeepsRules n listing.now × (length table.now ≡ n * n) }
     ensures { result ≡ outcome_of (cells_or_own_refusal there n table.now
@@ -79,8 +80,10 @@ fn judge_cells(there: bool, n: usize, listing: &[u16], table: &[u32]) -> Result<
     if there && is_own_table(n, listing, table) {
         return Ok(());
     }
-    table_checks::judge(Kind::Counts, n, table, 0, 0)?;
-    Err(Refusal::NotOwn)
+    match table_checks::judge(Kind::Counts, n, table, 0, 0) {
+        Ok(()) => Err(Refusal::NotOwn),
+        Err(cells) => Err(cells),
+    }
 }
 
 // All that is judged before a tree is changed: 1, 2, 3, 7, 8, 4, 5, 20.
