@@ -63,9 +63,11 @@ pub fn name_place(sheet: &[u8], leaf: usize) -> Result<NamePlace, Refusal>
     ensures { result ≡ name_place_answer sheet.now leaf }
 {
     let figures = ReadSheet::new(sheet).figures();
-    let names = judge_name(sheet, figures, leaf)?;
-    Ok(NamePlace {
-        first: names.start(leaf) + 1,
-        many: names.name(leaf).len(),
-    })
+    match judge_name(sheet, figures, leaf) {
+        Ok(names) => Ok(NamePlace {
+            first: names.start(leaf) + 1,
+            many: names.name(leaf).len(),
+        }),
+        Err(cause) => Err(cause),
+    }
 }
