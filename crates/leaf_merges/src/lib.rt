@@ -2,8 +2,7 @@
 // For the crates of the rebuilds.
 #![tactic(auto)]
 
-ghost use Rattle.std.specs.Prelude.{◌≡◌, ◌+◌, ◌*◌, ◌<◌, ◌≤◌, get_or, set, replicate};
-ghost use Rattle.base.specs.Lists.{filled};
+ghost use Rattle.std.specs.Prelude.{◌≡◌, ◌+◌, ◌*◌, ◌<◌, ◌≤◌, get_or, set};
 ghost use Rattle.limits.specs.Limits.{most_leaves};
 ghost use Rattle.state_arrays.specs.inner.Fits.{counts_scale, Given, SizesFit};
 ghost use Rattle.leaf_merges.specs.inner.Partners.{Partner};
@@ -22,22 +21,6 @@ pub struct Rows {
 }
 
 impl Rows {
-    // No rows: each of n leaves has its own number. For the crates above.
-    pub fn none(n: usize) -> Self
-        requires { n ≤ most_leaves }
-        ensures names { result.names ≡ filled n (λ k. k) (replicate most_leaves 0) }
-        ensures rows { result.rows ≡ replicate (2 * most_leaves) 0 }
-        ensures made { result.made ≡ 0 }
-    {
-        let mut names = [0; MOST_LEAVES];
-        numbers::own_numbers(n, &mut names);
-        Rows {
-            names,
-            rows: [0; 2 * MOST_LEAVES],
-            made: 0,
-        }
-    }
-
     // The row of the next node, n + made: its children are the subtrees `a` and `b`, and the node is now the number of
     // `a`.
     fn add(&mut self, n: usize, a: usize, b: usize)

@@ -13,7 +13,7 @@ ghost use Rattle.own_rebuild.specs.inner.OneSubtree.{OneSubtreeFits};
 
 use eligible_pairs::{Cells, PackedCells, Table, as_expected};
 use leaf_merges::{Rows, merge_leaves};
-use limits::Kind;
+use limits::{Kind, MOST_LEAVES};
 use refusals::Refusal;
 use state_arrays::{Arrays, scaled_counts};
 
@@ -43,8 +43,20 @@ pub fn rebuild_checked<T: Table>(
     ensures buffer { out.new ≡ written (rebuilt n (scale_of kind) (T.cells table.now n)) out.old }
 {
     let p = scaled_counts(kind, n);
-    let mut arrays = Arrays::single(n);
-    let mut rows = Rows::none(n);
+    // Both are made here, in place: where a function returns them they are copied twice, which made the rebuild of a
+    // few leaves half as long again.
+    let mut arrays = Arrays {
+        label: [0; MOST_LEAVES],
+        m: [0; MOST_LEAVES],
+        sizes: [1; MOST_LEAVES],
+    };
+    numbers::own_numbers(n, &mut arrays.label);
+    let mut rows = Rows {
+        names: [0; MOST_LEAVES],
+        rows: [0; 2 * MOST_LEAVES],
+        made: 0,
+    };
+    numbers::own_numbers(n, &mut rows.names);
     merge_leaves(n, table, &mut arrays, &mut rows, &p);
     if !one_subtree_fits(n, table, &arrays) {
         return Err(Refusal::NoTree);

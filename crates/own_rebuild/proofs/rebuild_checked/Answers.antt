@@ -22,13 +22,10 @@ given :
 given g c = counts_given c.args.kind _ _ _ c.requires.0 c.requires.1 c.scaled_counts-p.ensures
 
 pub merge_leaves-requires : goal.merge_leaves-requires
-merge_leaves-requires g c =
-    let arrays = c.single-arrays.ensures in
-    let rows = c.none-rows.ensures in (
-      (given g (goal.at.merge_leaves-requires g c).After-scaled_counts-p).1,
-      rw (arrays.m, arrays.sizes, rows.rows, rows.made)
-          (leaves_merged_start c.args.n c.requires.0.1 _ arrays.label rows.names),
-    )
+merge_leaves-requires g c = (
+  (given g (goal.at.merge_leaves-requires g c).After-scaled_counts-p).1,
+  leaves_merged_start c.args.n c.requires.0.1 _ c.own_numbers.ensures c.own_numbers-2.ensures,
+)
 
 pub returns-then-not-one_subtree_fits : goal.returns-then-not-one_subtree_fits
 returns-then-not-one_subtree_fits g c =
