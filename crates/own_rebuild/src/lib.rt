@@ -43,8 +43,8 @@ pub fn rebuild_checked<T: Table>(
     ensures buffer { out.new ≡ written (rebuilt n (scale_of kind) (T.cells table.now n)) out.old }
 {
     let p = scaled_counts(kind, n);
-    // Both are made here, in place: where a function returns them they are copied twice, which made the rebuild of a
-    // few leaves half as long again.
+    // Both are made here, in place: what a function returns is copied twice, and for arrays of this size that takes
+    // half as long as the rebuild of a few leaves.
     let mut arrays = Arrays {
         label: [0; MOST_LEAVES],
         m: [0; MOST_LEAVES],
