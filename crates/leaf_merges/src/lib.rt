@@ -2,7 +2,8 @@
 // For the crates of the rebuilds.
 #![tactic(auto)]
 
-ghost use Rattle.std.specs.Prelude.{◌≡◌, ◌+◌, ◌*◌, ◌<◌, ◌≤◌, get_or, set};
+ghost use Rattle.std.specs.Prelude.{◌≡◌, ◌+◌, ◌*◌, ◌<◌, ◌≤◌, get_or, set, replicate};
+ghost use Rattle.base.specs.Lists.{filled};
 ghost use Rattle.limits.specs.Limits.{most_leaves};
 ghost use Rattle.state_arrays.specs.inner.Fits.{counts_scale, Given, SizesFit};
 ghost use Rattle.leaf_merges.specs.inner.Partners.{Partner};
@@ -21,6 +22,23 @@ pub struct Rows {
 }
 
 impl Rows {
+    // No rows: each of n leaves has its own number. What is returned is copied, so that `own_rebuild` makes its rows in
+    // place. For the crates above.
+    pub fn none(n: usize) -> Self
+        requires { n ≤ most_leaves }
+        ensures names { result.names ≡ filled n (λ k. k) (replicate most_leaves 0) }
+        ensures rows { result.rows ≡ replicate (2 * most_leaves) 0 }
+        ensures made { result.made ≡ 0 }
+    {
+        let mut names = [0; MOST_LEAVES];
+        numbers::own_numbers(n, &mut names);
+        Rows {
+            names,
+            rows: [0; 2 * MOST_LEAVES],
+            made: 0,
+        }
+    }
+
     // The row of the next node, n + made: its children are the subtrees `a` and `b`, and the node is now the number of
     // `a`.
     fn add(&mut self, n: usize, a: usize, b: usize)
@@ -98,5 +116,23 @@ pub fn merge_leaves<T: Table>(
 {
     for t in (1..n).rev() {
         merge_leaf(n, table, arrays, rows, p, t);
+    }
+}
+
+#[cfg(test)]
+mod tests {
+    use super::*;
+
+    #[test]
+    fn none_has_own_numbers_and_no_row(rt: HostRuntime) {
+        for n in [0, 1, 5, MOST_LEAVES] {
+            let rows = Rows::none(n);
+            for k in 0..MOST_LEAVES {
+                let own = if k < n { k as u32 } else { 0 };
+                assert_eq!(rt; rows.names[k], own, "leaf {k} of {n}");
+            }
+            assert!(rt; rows.rows == [0; 2 * MOST_LEAVES], "rows of {n} leaves");
+            assert_eq!(rt; rows.made, 0, "of {n} leaves");
+        }
     }
 }
